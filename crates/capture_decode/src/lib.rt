@@ -12,6 +12,7 @@ mod laws;
 mod order;
 mod reader;
 mod record;
+mod record_text;
 mod text;
 
 pub use capture_show::show_nsap;

@@ -29,7 +29,7 @@ use Rattle.clnp_system.specs.Hellos.{sender}
 use Rattle.clnp_system.specs.Node.{Frame, Node, Reaction, at_tick}
 use Rattle.clnp_system.specs.Receiving.{Alien, BadHello, Faulty, HearsHello, Reads, Receives, told_reason}
 use Rattle.clnp_system.specs.Reporting.{Discarded, Discards, discarded_octets}
-use Rattle.clnp_system.specs.Verdicts.{IsRoute, IsRouteOf}
+use Rattle.clnp_system.specs.SourceRouting.{IsRoute, IsRouteOf}
 use Rattle.clnp_system.specs.Written.{HasPdu, WasRead}
 use Rattle.clnp_system.proofs.Aims.{route_there}
 use Rattle.clnp_system.specs.Setting.{port_on}

@@ -2,23 +2,21 @@
 
 ghost use Rattle.std.specs.Prelude.{◌≡◌, ◌≤◌, ◌==◌, ◌||◌, Option};
 ghost use Rattle.clnp_options.specs.SourceRoute.{SourceRoute};
-ghost use Rattle.clnp_options.specs.declared.reason.Reason.TheVariants.{LifetimeExpiredInTransit};
 ghost use Rattle.clnp_header.specs.Values.{value_of};
 ghost use Rattle.clnp_system.specs.declared.verdict.Verdict.TheVariants.{Discard};
 ghost use Rattle.clnp_system.specs.Setting.{bound_of};
 ghost use Rattle.clnp_system.specs.Tables.{rows_tables};
-ghost use Rattle.clnp_system.specs.Verdicts.{IsRouteOf, aim_of, by_aim, for_this, is_titled, to_destination, to_entry, verdict, whole_or_part};
+ghost use Rattle.clnp_system.specs.Verdicts.{by_aim, for_this, is_titled, to_destination, to_entry, verdict, whole_or_part};
+ghost use Rattle.clnp_system.specs.SourceRouting.{IsRouteOf, aim_of};
 ghost use Rattle.clnp_system.specs.Written.{WasRead};
 ghost use Rattle.clnp_entity.specs.steps.Judged.{MayDo, MayGo, MayStay};
 
 use crate::entity::NetEntity;
+use crate::lifetime::{has_ended_here, has_ended_onward, too_old};
 use clnp_header::{PduKind, PduRef, Reason, SegmentPart};
 use clnp_system::{Aim, Verdict};
 use nsap::{Hop, Nsap, RAW, TRANSPORT};
 use osi_base::Tick;
-
-/// The place of the lifetime in a header.
-const LIFETIME_PLACE: u8 = 4;
 
 impl NetEntity {
     /// What is to be done with a PDU that came on a LAN.
@@ -32,7 +30,7 @@ impl NetEntity {
         let bound = self.setup.bound(lan);
         let lifetime = u32::from(pdu.lifetime);
         if self.is_own_system(&pdu.destination) {
-            if lifetime < bound {
+            if has_ended_here(lifetime, bound) {
                 return too_old();
             }
             return self.judge_own(pdu);
@@ -40,7 +38,7 @@ impl NetEntity {
         if self.setup.end {
             return discard(Reason::DestinationUnreachable);
         }
-        if lifetime <= bound {
+        if has_ended_onward(lifetime, bound) {
             return too_old();
         }
         self.judge_onward(now, pdu)
@@ -75,16 +73,6 @@ impl NetEntity {
             }
             Aim::Forbidden => discard(Reason::PathNotAcceptable),
         }
-    }
-}
-
-/// A PDU whose lifetime has ended.
-fn too_old() -> Verdict
-    ensures { result ≡ Discard LifetimeExpiredInTransit 4 }
-{
-    Verdict::Discard {
-        reason: Reason::LifetimeExpiredInTransit,
-        place: LIFETIME_PLACE,
     }
 }
 

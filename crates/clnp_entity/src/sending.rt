@@ -1,11 +1,9 @@
 //! A unit that is sent (X.233, PDU composition function, route PDU function, data unit identifier).
 
-ghost use Rattle.std.specs.Prelude.{◌≡◌, ◌≤◌, ◌==◌, ◌-◌, true, Ok, None, IfOk, IfSome, OnOk, List, length, option_map, slice_get};
-ghost use Rattle.std.specs.Prelude.{if◌then◌else◌};
+ghost use Rattle.std.specs.Prelude.{◌≡◌, ◌≤◌, true, Ok, IfOk, IfSome, OnOk, length};
 ghost use Rattle.nsap.specs.Address.{is_same_system};
-ghost use Rattle.clnp_system.specs.Identifiers.{begins_half, is_recent, is_spent, last_of, numbered};
-ghost use Rattle.clnp_system.specs.Node.{at_tick, sent_of};
-ghost use Rattle.clnp_system.specs.Sending.{Sends, first_hop, numbered_if, way};
+ghost use Rattle.clnp_system.specs.Node.{sent_of};
+ghost use Rattle.clnp_system.specs.Sending.{Sends, first_hop, way};
 ghost use Rattle.clnp_system.specs.Tables.{rows_tables};
 ghost use Rattle.clnp_entity.specs.Kept.{IsKept, IsNear};
 ghost use Rattle.clnp_entity.specs.steps.Starting.{starting};
@@ -17,9 +15,6 @@ use osi_base::{DropCause, NoMemory, Tick, Unit, Wish};
 
 /// The most octets of a unit.
 const MOST_OCTETS: usize = 16_384;
-
-/// The first data unit identifier of the upper half.
-const UPPER_HALF: u16 = 32_768;
 
 impl NetEntity {
     /// Sends a unit of this end system.
@@ -112,57 +107,5 @@ impl NetEntity {
     {
         let title = titles.first()?;
         self.hop_to(now, title)
-    }
-
-    /// Whether the next identifier may not be given yet: it begins a half of which one was given within the lifetime.
-    fn is_spent(&self, now: Tick) -> bool
-        ensures { result ≡ is_spent self.now now }
-    {
-        begins_half(self.next_id) && is_recent(self.last(), now, self.setup.life)
-    }
-
-    /// When an identifier of the half of the next one was given last.
-    fn last(&self) -> Option<Tick>
-        ensures { result ≡ last_of self.now }
-    {
-        if self.next_id < UPPER_HALF {
-            self.low
-        } else {
-            self.high
-        }
-    }
-
-    /// The next identifier is given to a unit that may be cut.
-    fn number_if(&mut self, cut: bool, now: Tick)
-        ensures after { self.new ≡ numbered_if cut self.old now }
-        ensures kept { IsKept self.new }
-    {
-        let lower = self.next_id < UPPER_HALF;
-        if !cut {
-            return;
-        }
-        if lower {
-            self.low = Some(now);
-        } else {
-            self.high = Some(now);
-        }
-        self.next_id = self.next_id.wrapping_add(1);
-    }
-}
-
-/// Whether the identifier is the first of a half.
-fn begins_half(id: u16) -> bool
-    ensures { result ≡ begins_half id }
-{
-    id == 0 || id == UPPER_HALF
-}
-
-/// Whether that was at most so many ticks ago.
-fn is_recent(last: Option<Tick>, now: Tick, life: u8) -> bool
-    ensures { result ≡ is_recent last now life }
-{
-    match last {
-        Some(tick) => u64::from(now) <= u64::from(tick) + u64::from(life),
-        None => false,
     }
 }

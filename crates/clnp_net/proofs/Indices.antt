@@ -1,21 +1,23 @@
 -- Each unit afloat is found through the index, and stays in it.
 use Rattle.std.proofs.Common.{◌≡◌, ◌≢◌, ◌∙◌, ℕ, zero, suc, ◌+◌, ◌*◌, ◌-◌, ◌%◌, ◌<◌, ◌≤◌, Bool, true, false, List, [], ◌∷◌, ◌++◌, length, slice_get, Option, Some, None, refl, sym, ap, subst, arith}
-use Rattle.std.specs.Prelude.{◌&&◌, ◌||◌, nat_eq, nat_le, cond, nat_lt, not, drop, take}
+use Rattle.std.specs.Prelude.{nat_eq, nat_le, cond, not, drop, take}
 use Rattle.std.specs.BTreeSet.{BTreeSet, IsUnchanged, Updates, UpdatesBy, contains, keys_between}
-use Rattle.std.specs.BTreeMap.Range.{range_contains}
 use Rattle.std.specs.Cmp.Lexicographic.{pointwise}
 use Rattle.std.specs.List.{All, filter, list_any}
 use Rattle.std.specs.Ordering.{nat_cmp, is_eq}
 use Rattle.std.specs.declared.ops.Bound.TheVariants.{Included}
+use Rattle.std.proofs.lemmas.Bool.{false_from_ne_true}
 use Rattle.std.proofs.lemmas.Bool.Decides.{nat_tests}
 use Rattle.std.proofs.lemmas.List.{length-take-le}
 use Rattle.std.proofs.lemmas.Option.{slice_get_within}
-use Rattle.std.proofs.lemmas.Map.Views.{any-filter_same}
+use Rattle.std.proofs.lemmas.Map.Keys.{any_passes_from_place}
 use Rattle.osi_base.specs.declared.unit.Unit.{Unit as CarriedUnit}
 use Rattle.osi_base.specs.Floated.{is_unit_of, is_young, IsOrdered}
+use Rattle.osi_base.proofs.Entries.{is_unit}
+use Rattle.osi_base.proofs.Searches.{at_code, searched_codes}
 use Rattle.osi_base.proofs.Young.{first_old, floated_last, young_front}
 use Rattle.clnp_system.proofs.Passing.{take_snoc}
-use Rattle.clnp_net.specs.steps.Indexed.{AreIndexed, IsIndexed, code_of, is_front_older, is_there, key_of, sum_from, unit_at}
+use Rattle.clnp_net.specs.steps.Indexed.{AreIndexed, IsIndexed, code_of, is_front_older, is_there, key_of, unit_at}
 
 pub indexed_more : (had has : ℕ → Bool) (number : ℕ) (entries : List (ℕ × CarriedUnit (List ℕ))) → ((code : ℕ) → had code ≡ true → has code ≡ true) → AreIndexed had number entries → AreIndexed has number entries
 indexed_more had has number [] more h = tt
@@ -69,132 +71,31 @@ found_at has number zero (x ∷ entries) e h at =
 found_at has number (suc place) (x ∷ entries) e h at =
     code_same has (key_of e.1) (number + 1 + place) (number + suc place) (omega arith) (found_at has (number + 1) place entries e h.1 at)
 
--- ---- tests over lists
-
-record Passing {A : Type 0} (p : A → Bool) (xs : List A) : Type 0 where
-  pub place : ℕ
-  pub one : A
-  pub at : slice_get xs place ≡ Some one
-  pub passes : p one ≡ true
-  pub within : place < length xs
-
-any_at : {A : Type 0} (p : A → Bool) (xs : List A) → list_any p xs ≡ true → Passing p xs
-any_at p [] h = absurd cc
-any_at {A} p (x ∷ xs) h = by_first (p x) refl h (any_at p xs)
-  where
-    by_first : (b : Bool) → p x ≡ b → (b || list_any p xs) ≡ true → (list_any p xs ≡ true → Passing p xs) → Passing p (x ∷ xs)
-    by_first true is k later = record { place = 0; one = x; at = refl; passes = is; within = omega arith }
-    by_first false is k later = let r = later k in let w = r.within in record { place = suc r.place; one = r.one; at = r.at; passes = r.passes; within = omega (arith, w) }
-
-at_any : {A : Type 0} (p : A → Bool) (xs : List A) (place : ℕ) (one : A) → slice_get xs place ≡ Some one → p one ≡ true → list_any p xs ≡ true
-at_any p [] place one at h = absurd cc
-at_any {A} p (x ∷ xs) zero one at h = ap (λ (b : Bool). b || list_any p xs) (ap p (some_same x one at) ∙ h)
-  where
-    some_same : (x y : A) → Some x ≡ Some y → x ≡ y
-    some_same x y same = cc same
-at_any p (x ∷ xs) (suc place) one at h = or_true (p x) (list_any p xs) (at_any p xs place one at h)
-  where
-    or_true : (a b : Bool) → b ≡ true → (a || b) ≡ true
-    or_true true b h = refl
-    or_true false b h = h
-
-any_weaker : {A : Type 0} (p q : A → Bool) (xs : List A) → ((x : A) → p x ≡ true → q x ≡ true) → list_any p xs ≡ true → list_any q xs ≡ true
-any_weaker p q xs weaker h = let r = any_at p xs h in at_any q xs r.place r.one r.at (weaker r.one r.passes)
-
-same_bool : (a b : Bool) → (a ≡ true → b ≡ true) → (b ≡ true → a ≡ true) → a ≡ b
-same_bool true b h k = sym (h refl)
-same_bool false true h k = k refl
-same_bool false false h k = refl
-
-and_first : (a b : Bool) → (a && b) ≡ true → a ≡ true
-and_first true b h = refl
-and_first false b h = absurd cc
-
-and_second : (a b : Bool) → (a && b) ≡ true → b ≡ true
-and_second true b h = h
-and_second false b h = absurd cc
-
-same_list : (xs ys : List ℕ) → pointwise nat_eq xs ys ≡ true → xs ≡ ys
-same_list [] [] h = refl
-same_list [] (y ∷ ys) h = absurd cc
-same_list (x ∷ xs) [] h = absurd cc
-same_list (x ∷ xs) (y ∷ ys) h =
-    let first : x ≡ y = same_nat (and_first (nat_eq x y) (pointwise nat_eq xs ys) h) in
-    ap (λ (n : ℕ). n ∷ xs) first ∙ ap (λ (l : List ℕ). y ∷ l) (same_list xs ys (and_second (nat_eq x y) (pointwise nat_eq xs ys) h))
-  where
-    same_nat : nat_eq x y ≡ true → x ≡ y
-    same_nat k = grind (arith, nat_tests, k)
+-- ---- the search
 
 -- equal units have one key
 same_key : (unit : CarriedUnit (List ℕ)) (e : ℕ × CarriedUnit (List ℕ)) → is_unit_of (pointwise nat_eq) unit e ≡ true → key_of e.1 ≡ key_of unit
-same_key unit e h =
-    let f = pointwise nat_eq e.1.from unit.from in
-    let t = pointwise nat_eq e.1.to unit.to in
-    let o = pointwise nat_eq e.1.octets unit.octets in
-    let from : e.1.from ≡ unit.from = same_list e.1.from unit.from (firsts f t o h) in
-    let to : e.1.to ≡ unit.to = same_list e.1.to unit.to (seconds f t o h) in
-    let octets : e.1.octets ≡ unit.octets = same_list e.1.octets unit.octets (thirds f t o h) in
-    λ i. sum_from (sum_from (sum_from 0 (from i)) (to i)) (octets i)
-  where
-    firsts : (a b c : Bool) → (a && b && c) ≡ true → a ≡ true
-    firsts true b c h = refl
-    firsts false b c h = absurd cc
-
-    seconds : (a b c : Bool) → (a && b && c) ≡ true → b ≡ true
-    seconds true true c h = refl
-    seconds true false c h = absurd cc
-    seconds false b c h = absurd cc
-
-    thirds : (a b c : Bool) → (a && b && c) ≡ true → c ≡ true
-    thirds true true c h = h
-    thirds true false c h = absurd cc
-    thirds false b c h = absurd cc
-
--- ---- the search
-
-at_code : (code k : ℕ) → is_eq (nat_cmp code k) ≡ true → k ≡ code
-at_code code k h = by_less (nat_lt code k) (nat_eq code k) refl h
-  where
-    by_less : (less same : Bool) → nat_eq code k ≡ same → is_eq (cond less Rattle.std.specs.declared.cmp.Ordering.TheVariants.Less (cond same Rattle.std.specs.declared.cmp.Ordering.TheVariants.Equal Rattle.std.specs.declared.cmp.Ordering.TheVariants.Greater)) ≡ true → k ≡ code
-    by_less true same is h = absurd cc
-    by_less false true is h = grind (arith, nat_tests, is)
-    by_less false false is h = absurd cc
-
-in_range : (low high k : ℕ) → low ≤ k → k ≤ high → range_contains nat_cmp (Included low) (Included high) k ≡ true
-in_range low high k from to = grind (arith, nat_tests, from, to)
+same_key unit e h = ap key_of (is_unit unit e h)
 
 back : (key first place : ℕ) → first < 4294967296 → place < 4294967296 → ((key * 4294967296 + (first + place) % 4294967296) % 4294967296 + (4294967296 - first)) % 4294967296 ≡ place
 back key first place fits low = omega (arith, fits, low)
 
 pub searched : (s : BTreeSet ℕ) (first : ℕ) (entries : List (ℕ × CarriedUnit (List ℕ))) (unit : CarriedUnit (List ℕ)) → first < 4294967296 → length entries < 4294967296 → AreIndexed (contains nat_cmp s) first entries
     → list_any (unit_at entries first unit) (keys_between nat_cmp (Included (key_of unit * 4294967296)) (Included (key_of unit * 4294967296 + 4294967295)) s) ≡ list_any (is_unit_of (pointwise nat_eq) unit) entries
-searched s first entries unit low few h = same_bool _ _ sound complete
+searched s first entries unit low few h =
+    searched_codes s (key_of unit * 4294967296) (key_of unit * 4294967296 + 4294967295) (unit_at entries first unit) (is_unit_of (pointwise nat_eq) unit) entries
+    (λ code k. there_any _ (slice_get entries ((code % 4294967296 + (4294967296 - first)) % 4294967296)) refl k)
+    (λ place one at passes within. record {
+      code = code_of (key_of unit) (first + place);
+      has = subst (λ (n : ℕ). contains nat_cmp s (code_of n (first + place)) ≡ true) (same_key unit one passes) (found_at (contains nat_cmp s) first place entries one h at);
+      from = omega arith;
+      to = omega arith;
+      passes = ap (λ (n : ℕ). is_there unit (slice_get entries n)) (back (key_of unit) first place low (omega (arith, within, few))) ∙ ap (is_there unit) at ∙ passes;
+    })
   where
-    run : List ℕ
-    run = keys_between nat_cmp (Included (key_of unit * 4294967296)) (Included (key_of unit * 4294967296 + 4294967295)) s
-
     there_any : (place : ℕ) (there : Option (ℕ × CarriedUnit (List ℕ))) → slice_get entries place ≡ there → is_there unit there ≡ true → list_any (is_unit_of (pointwise nat_eq) unit) entries ≡ true
     there_any place None is k = absurd cc
-    there_any place (Some e) is k = at_any (is_unit_of (pointwise nat_eq) unit) entries place e is k
-
-    sound : list_any (unit_at entries first unit) run ≡ true → list_any (is_unit_of (pointwise nat_eq) unit) entries ≡ true
-    sound k = let r = any_at (unit_at entries first unit) run k in there_any _ (slice_get entries ((r.one % 4294967296 + (4294967296 - first)) % 4294967296)) refl r.passes
-
-    complete : list_any (is_unit_of (pointwise nat_eq) unit) entries ≡ true → list_any (unit_at entries first unit) run ≡ true
-    complete k =
-        let r = any_at (is_unit_of (pointwise nat_eq) unit) entries k in
-        let w = r.within in
-        let code : ℕ = code_of (key_of unit) (first + r.place) in
-        let here : contains nat_cmp s code ≡ true = subst (λ (n : ℕ). contains nat_cmp s (code_of n (first + r.place)) ≡ true) (same_key unit r.one r.passes) (found_at (contains nat_cmp s) first r.place entries r.one h r.at) in
-        let inside : list_any (λ x. is_eq (nat_cmp code x)) run ≡ true =
-        any-filter_same (λ x. is_eq (nat_cmp code x)) (range_contains nat_cmp (Included (key_of unit * 4294967296)) (Included (key_of unit * 4294967296 + 4294967295))) true
-        (λ x is. let same = at_code code x is in in_range (key_of unit * 4294967296) (key_of unit * 4294967296 + 4294967295) x (omega (arith, same)) (omega (arith, same))) s.keys ∙ here in
-        any_weaker (λ x. is_eq (nat_cmp code x)) (unit_at entries first unit) run (λ x is. at_place r.place r.one r.at r.passes x (at_code code x is) (omega (arith, w, few))) inside
-      where
-        at_place : (place : ℕ) (one : ℕ × CarriedUnit (List ℕ)) → slice_get entries place ≡ Some one → is_unit_of (pointwise nat_eq) unit one ≡ true → (x : ℕ) → x ≡ code_of (key_of unit) (first + place) → place < 4294967296 → unit_at entries first unit x ≡ true
-        at_place place one at passes x same small =
-            let where_is : (x % 4294967296 + (4294967296 - first)) % 4294967296 ≡ place = ap (λ (n : ℕ). (n % 4294967296 + (4294967296 - first)) % 4294967296) same ∙ back (key_of unit) first place low small in
-            ap (λ (n : ℕ). is_there unit (slice_get entries n)) where_is ∙ ap (is_there unit) at ∙ passes
+    there_any place (Some e) is k = any_passes_from_place (is_unit_of (pointwise nat_eq) unit) entries place e is k
 
 -- ---- the whole
 
@@ -209,17 +110,10 @@ indexed_popped limit on first next code number s n entries rest e h is code_is n
     record {
       floated = record { within = omega (arith, within); ordered = here.floated.ordered.1 };
       indexed = λ is_on. indexed_rest (contains nat_cmp s) (contains nat_cmp n) first next e rest
-          (λ q other was. (updates is_on).2 q (far q (λ at. other (at_code code q at ∙ same))) ∙ was) (omega (arith, within, most)) next_is (here.indexed is_on);
+          (λ q other was. (updates is_on).2 q (false_from_ne_true (is_eq (nat_cmp code q)) (λ at. other (at_code code q at ∙ same))) ∙ was) (omega (arith, within, most)) next_is (here.indexed is_on);
       most = most;
       low = omega (arith, next_is);
     }
-  where
-    not_true : (b : Bool) → (b ≡ true → ⊥) → b ≡ false
-    not_true true never = absurd (never refl)
-    not_true false never = refl
-
-    far : (q : ℕ) → (is_eq (nat_cmp code q) ≡ true → ⊥) → is_eq (nat_cmp code q) ≡ false
-    far q never = not_true (is_eq (nat_cmp code q)) never
 
 still_there : (s n : BTreeSet ℕ) (code : ℕ) → Updates nat_cmp s n code true → (q : ℕ) → contains nat_cmp s q ≡ true → contains nat_cmp n q ≡ true
 still_there s n code updates q was = updates.0 q ∙ by_test (is_eq (nat_cmp code q)) (contains nat_cmp s q) was

@@ -21,6 +21,7 @@ use Rattle.osi_base.specs.Link.{Link}
 use Rattle.osi_base.specs.Calls.{Call, Tick}
 use Rattle.osi_base.specs.Floated.{Floated, is_unit_of, is_young}
 use Rattle.osi_base.specs.Gathering.{Gathers}
+use Rattle.osi_base.proofs.Firsts.{first_at, none_there}
 use Rattle.esis_tables.specs.Rows.{Rows}
 use Rattle.clnp_system.specs.Node.{Frame, Node, Reaction}
 use Rattle.clnp_system.specs.Tables.{Tables, rows_tables}
@@ -32,7 +33,7 @@ use Rattle.law_clnp_step.specs.Sound.{IsTimely}
 use Rattle.law_clnp_step.specs.Step.{Arrives, Begins, IsDropped, IsNobodys, IsTaken, NetOffers, NetTicks, counted, is_source, strays_in}
 use Rattle.law_clnp_step.proofs.Lists.{all_back, all_both, all_front, all_weaker}
 use Rattle.clnp_net.specs.steps.Telling.{AreBehind, DropsUnit, HandsOut, IsSourceAt, Passes, Reacts, ReceivesAt, SendsAt, SendsFrom, Tells, TicksAt}
-use Rattle.clnp_net.proofs.Places.{first_at, none_there, parts}
+use Rattle.clnp_net.proofs.Places.{parts}
 
 -- ---- what is told
 

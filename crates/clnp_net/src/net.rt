@@ -317,8 +317,29 @@ fn handle_waiting<C: Carrier<Addr = Port>>(
     };
     let others = gather(alloc, link)?;
     handle_up(link, systems, now, up, waiting)?;
-    handle(link, systems, now, others, waiting)?;
+    handle_any(link, systems, now, others, waiting)?;
     Ok(())
+}
+
+/// What came up below beside the first is handled, one after another: mostly there is none.
+// Inlined: where none is there, nothing is called.
+#[inline(always)]
+fn handle_any<C: Carrier<Addr = Port>>(
+    link: &mut C,
+    systems: &mut Systems,
+    now: Tick,
+    ups: VecDeque<Up<Port>>,
+    waiting: &mut Ups,
+) -> Result<(), NoMemory>
+    requires behind { AreBehind now systems.old }
+    requires low { now ≤ 4000000000 }
+    ensures { OnOk result (Tells waiting.old.items waiting.new.items
+        (λ told. Handles C.link C.steps rows_tables now link.old systems.old ups.items link.new systems.new told)) }
+{
+    if ups.is_empty() {
+        return Ok(());
+    }
+    handle(link, systems, now, ups, waiting)
 }
 
 /// What came up below is handled, one after another.
@@ -466,12 +487,21 @@ fn tick_all<C: Carrier<Addr = Port>>(
 }
 
 /// How many strays there are, with those among what waits from that place on, once octets were injected.
+// Inlined: until then one look tells.
+#[inline(always)]
 fn strays_after(honest: bool, strays: u32, floating: &Afloat, waiting: &Ups, from: usize) -> u32
     ensures { result ≡ counted honest strays (strays_in floating.now.entries (drop from waiting.now.items)) }
 {
     if honest {
         return strays;
     }
+    strays_with(strays, floating, waiting, from)
+}
+
+/// How many strays there are, with those among what waits from that place on.
+fn strays_with(strays: u32, floating: &Afloat, waiting: &Ups, from: usize) -> u32
+    ensures { result ≡ counted false strays (strays_in floating.now.entries (drop from waiting.now.items)) }
+{
     let mut count = strays;
     for place in from..waiting.len() {
         count = count.saturating_add(stray_at(floating, waiting, place));

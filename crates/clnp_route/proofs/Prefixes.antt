@@ -5,50 +5,16 @@ use Rattle.std.specs.Prelude.{◌||◌, ◌&&◌, ◌⊎◌, not, nat_eq, nat_lt
 use Rattle.std.specs.List.{All, Contains, list_any}
 use Rattle.std.specs.Cmp.Lexicographic.{pointwise, same_text, nat_list_eq_equiv}
 use Rattle.std.proofs.lemmas.Bool.{or_from, or_parts, and_parts, not-true, le-ltb, ltb-false}
-use Rattle.std.proofs.lemmas.List.Elements.{All-nil, All-cons, All-contains, All-weaker, Contains-append_left, Contains-append_right, Contains-append_cases, Contains-push, Contains-push_cases}
+use Rattle.std.proofs.lemmas.List.Elements.{All-nil, All-contains, All-weaker, Contains-append_left, Contains-append_right, Contains-append_cases, Contains-push, Contains-push_cases}
 use Rattle.std.proofs.lemmas.List.Folds.{list_any-append, list_any_none}
+use Rattle.osi_base.proofs.Firsts.{find_none, find_some, none_pass}
+use Rattle.osi_base.proofs.Members.{one_member}
 use Rattle.nsap.specs.Address.{covers}
 use Rattle.nsap.specs.declared.port.Hop.{Hop}
 use Rattle.clnp_route.specs.declared.table.RouteRow.{RouteRow}
 use Rattle.clnp_route.specs.steps.Best.{IsBest}
 use Rattle.clnp_route.proofs.Longest.{some_best}
 use Rattle.clnp_route.specs.Routes.{AreDistinct, has_prefix, IsLongest, IsNext, IsTable, is_longest, next_hop, surpasses}
-
-module _ {X : Type 0} where
-  contains_cases : (x : X) (xs : List X) (y : X) → Contains (x ∷ xs) y → (x ≡ y) ⊎ Contains xs y
-  contains_cases x xs y there =
-      elim (Contains-append_cases (x ∷ []) xs y there) [
-        | inl here ↦ elim (Contains-push_cases [] x y here) [ inl none ↦ inr (absurd (omega (arith, none.1))) | inr is ↦ inl is ]
-        | inr rest ↦ inr rest
-      ]
-
-  none_pass : (p : X → Bool) (xs : List X) → list_any p xs ≡ false → All (λ x. p x ≡ false) xs
-  none_pass p [] none = All-nil (λ x. p x ≡ false)
-  none_pass p (x ∷ xs) none =
-      let parts : (p x ≡ false) × (list_any p xs ≡ false) = or_parts (p x) (list_any p xs) none in
-      All-cons (λ x. p x ≡ false) x xs parts.0 (none_pass p xs parts.1)
-
-  find_by : (p : X → Bool) (x : X) (xs : List X) (y : X) (passes : Bool) → p x ≡ passes → cond passes (Some x) (find p xs) ≡ Some y
-      → (find p xs ≡ Some y → Contains xs y × (p y ≡ true)) → Contains (x ∷ xs) y × (p y ≡ true)
-  find_by p x xs y true passes is rest =
-      let same : x ≡ y = cc in
-      (subst (λ (z : X). Contains (x ∷ xs) z) same (Contains-append_left (x ∷ []) xs x (Contains-push [] x)), ap p (sym same) ∙ passes)
-  find_by p x xs y false passes is rest = (Contains-append_right (x ∷ []) xs y (rest is).0, (rest is).1)
-
-  -- what is found is there and passes
-  find_some : (p : X → Bool) (xs : List X) (y : X) → find p xs ≡ Some y → Contains xs y × (p y ≡ true)
-  find_some p [] y is = absurd cc
-  find_some p (x ∷ xs) y is = find_by p x xs y (p x) refl is (find_some p xs y)
-
-  none_by : (p : X → Bool) (x : X) (xs : List X) (passes : Bool) → p x ≡ passes → cond passes (Some x) (find p xs) ≡ None
-      → (find p xs ≡ None → All (λ x. p x ≡ false) xs) → All (λ x. p x ≡ false) (x ∷ xs)
-  none_by p x xs true passes is rest = absurd cc
-  none_by p x xs false passes is rest = All-cons (λ x. p x ≡ false) x xs passes (rest is)
-
-  -- where nothing is found, nothing passes
-  find_none : (p : X → Bool) (xs : List X) → find p xs ≡ None → All (λ x. p x ≡ false) xs
-  find_none p [] is = All-nil (λ x. p x ≡ false)
-  find_none p (x ∷ xs) is = none_by p x xs (p x) refl is (find_none p xs)
 
 -- a row behind others whose prefix they do not have
 pub distinct_push : (rows : List RouteRow) (row : RouteRow) → AreDistinct rows → has_prefix rows row.prefix ≡ false → AreDistinct (rows ++ row ∷ [])
@@ -75,18 +41,8 @@ no_row rows prefix row fresh there same =
 -- where prefixes differ, rows of one prefix are one row
 same_row : (rows : List RouteRow) (first second : RouteRow) → AreDistinct rows → Contains rows first → Contains rows second → first.prefix ≡ second.prefix
     → first ≡ second
-same_row [] first second distinct one two same = absurd (omega (arith, one.1))
-same_row (row ∷ rows) first second distinct one two same =
-    elim (contains_cases row rows first one) [
-      | inl is ↦ elim (contains_cases row rows second two) [
-        | inl also ↦ sym is ∙ also
-        | inr later ↦ absurd (no_row rows row.prefix second distinct.0 later (sym same ∙ ap (λ (x : RouteRow). x.prefix) (sym is)))
-      ]
-      | inr later ↦ elim (contains_cases row rows second two) [
-        | inl also ↦ absurd (no_row rows row.prefix first distinct.0 later (same ∙ ap (λ (x : RouteRow). x.prefix) (sym also)))
-        | inr behind ↦ same_row rows first second distinct.1 later behind same
-      ]
-    ]
+same_row =
+    one_member (λ (row : RouteRow). row.prefix) AreDistinct (λ row rows distinct. distinct.1) (λ row rows other distinct there same. no_row rows row.prefix other distinct.0 there same)
 
 -- a prefix that covers an address is its first octets
 front : (prefix address : List ℕ) → covers prefix address ≡ true → prefix ≡ take (length prefix) address
@@ -160,7 +116,7 @@ found_none rows address (Some row) h none =
 next_by : (rows : List RouteRow) (address : List ℕ) (found : Option RouteRow) → find (is_longest rows address) rows ≡ found
     → IsNext rows address (option_map (λ row. row.hop) found)
 next_by rows address None is = found_none rows address (some_best address [] rows None (All-nil (λ row. covers row.prefix address ≡ false))).0
-    (some_best address [] rows None (All-nil (λ row. covers row.prefix address ≡ false))).1 (find_none (is_longest rows address) rows is)
+    (some_best address [] rows None (All-nil (λ row. covers row.prefix address ≡ false))).1 (none_pass (is_longest rows address) rows (find_none (is_longest rows address) rows is))
 next_by rows address (Some row) is =
     let there : Contains rows row × (is_longest rows address row ≡ true) = find_some (is_longest rows address) rows row is in
     (row, tested rows address row there.0 there.1, refl)

@@ -2,6 +2,7 @@
 -- are past their deadline one alone comes before all those of later or equal deadlines.
 use Rattle.std.proofs.Common.{◌≡◌, ℕ, suc, ◌+◌, ◌<◌, ◌≤◌, false, List, [], ◌∷◌, ◌++◌, length, map, slice_get, Option, Some, None, refl, sym, ◌∙◌, ap, subst, arith}
 use Rattle.std.specs.List.{AllByRecursion, list_any}
+use Rattle.osi_base.proofs.Members.{all_back}
 use Rattle.clnp_segment.specs.Joining.{Filled, Held, Segment, Together}
 use Rattle.clnp_segment.specs.Store.{At, Coming, Holding, Key, Partial, HasNoRoom, TakesAt, found_or_nothing, has_key, partial_with}
 use Rattle.clnp_segment.specs.Laws.{OneAnswer, OneExpiry}
@@ -9,7 +10,6 @@ use Rattle.clnp_segment.specs.declared.store.Expired.{Expired}
 use Rattle.clnp_segment.specs.declared.store.Joined.{Joined}
 use Rattle.clnp_segment.specs.declared.store.Joined.TheVariants as joined
 use Rattle.clnp_segment.proofs.Lists.{none_in, one_place, same_head, same_tail}
-use Rattle.clnp_segment.proofs.Storing.{all_back}
 
 -- ---- a place
 one_at : (key : Key) (held before : List Partial) (found : Option Partial) (rest others : List Partial) (other : Option Partial) (more : List Partial)

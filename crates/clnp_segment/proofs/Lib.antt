@@ -1,4 +1,5 @@
 mod Clashes
+mod Coming
 mod CutRuns
 mod Alone
 pub mod Cuttings

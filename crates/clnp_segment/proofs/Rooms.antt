@@ -4,6 +4,7 @@ use Rattle.std.proofs.Common.{◌≡◌, ◌≢◌, ℕ, suc, ◌+◌, ◌-◌, 
 use Rattle.std.specs.List.{AllByRecursion}
 use Rattle.std.proofs.lemmas.List.{length-replicate}
 use Rattle.std.proofs.lemmas.List.Sums.{count_by-le-length}
+use Rattle.osi_base.proofs.Members.{all_back, all_both, all_front}
 use Rattle.clnp_segment.specs.Joining.{Held, filled_places, nothing_of}
 use Rattle.clnp_segment.specs.Store.{AreApart, At, Coming, HasNoRoom, Holding, Key, Partial, TakesAt, found_or_nothing, key_of, octets_held, partial_with}
 use Rattle.clnp_segment.specs.Units.{Came, TakesAll}
@@ -12,7 +13,7 @@ use Rattle.clnp_segment.specs.Laws.{NoneIsFull}
 use Rattle.clnp_segment.specs.declared.store.Joined.{Joined}
 use Rattle.clnp_segment.specs.declared.store.Joined.TheVariants as joined
 use Rattle.clnp_segment.proofs.Slots.{none_filled}
-use Rattle.clnp_segment.proofs.Storing.{all_back, all_both, all_front, held_both}
+use Rattle.clnp_segment.proofs.Storing.{held_both}
 use Rattle.clnp_segment.proofs.Units.{key_there}
 use Rattle.clnp_segment.proofs.Wholes.{Around, around, still_apart}
 

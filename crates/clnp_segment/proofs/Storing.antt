@@ -1,11 +1,12 @@
 -- The units in order: one is found at its key, and taking one out, changing one or adding one at the end keeps what is always so.
-use Rattle.std.proofs.Common.{◌≡◌, ◌≢◌, ◌&&◌, ◌||◌, not, cond, nat_lt, get_or, ℕ, zero, suc, ◌+◌, ◌<◌, ◌≤◌, Bool, true, false, List, [], ◌∷◌, ◌++◌, drop, length, nat_eq, slice_get, slice_set, take, Some, None, refl, sym, ◌∙◌, ap, subst, arith, length-append, add-one}
+use Rattle.std.proofs.Common.{◌≡◌, ◌≢◌, get_or, ℕ, zero, suc, ◌+◌, ◌<◌, ◌≤◌, Bool, true, false, List, [], ◌∷◌, ◌++◌, drop, length, slice_get, slice_set, take, Some, None, refl, sym, ◌∙◌, ap, subst, arith, length-append, add-one}
 use Rattle.std.specs.List.{AllByRecursion, list_any, position, remove}
-use Rattle.std.specs.List.{position_or_len}
-use Rattle.std.proofs.lemmas.Bool.{or_parts, ltb-false}
+use Rattle.std.proofs.lemmas.Bool.{and_from, eq-eqb, or_parts}
+use Rattle.std.proofs.lemmas.Cmp.{nat_list_eq_equiv}
 use Rattle.std.proofs.lemmas.List.Quantifiers.{position-Some}
-use Rattle.std.proofs.lemmas.Option.{get_or_from_slice_get}
-use Rattle.std.specs.Cmp.Lexicographic.{pointwise}
+use Rattle.std.proofs.lemmas.Option.{get_or_from_slice_get, slice_get-get_or}
+use Rattle.osi_base.proofs.Firsts.{none_before, none_there}
+use Rattle.osi_base.proofs.Members.{all_back, all_both, all_front}
 use Rattle.clnp_segment.specs.Joining.{Held, filled_places}
 use Rattle.clnp_segment.specs.Store.{AreApart, At, HasPlaces, Holding, IsWithin, Key, Partial, has_key, key_of, octets_held}
 
@@ -55,19 +56,6 @@ pub got : (units : List Partial) (place : ℕ) → place < length units → (uni
 got [] place h = absurd (omega (arith, h))
 got (x ∷ units) zero h = (x, refl)
 got (x ∷ units) (suc place) h = got units place (omega (arith, h))
-
--- ---- what each member keeps
-pub all_front : (P : Partial → Type 0) (before rest : List Partial) → AllByRecursion P (before ++ rest) → AllByRecursion P before
-all_front P [] rest h = tt
-all_front P (x ∷ before) rest h = (h.0, all_front P before rest h.1)
-
-pub all_back : (P : Partial → Type 0) (before rest : List Partial) → AllByRecursion P (before ++ rest) → AllByRecursion P rest
-all_back P [] rest h = h
-all_back P (x ∷ before) rest h = all_back P before rest h.1
-
-pub all_both : (P : Partial → Type 0) (before rest : List Partial) → AllByRecursion P before → AllByRecursion P rest → AllByRecursion P (before ++ rest)
-all_both P [] rest h k = k
-all_both P (x ∷ before) rest h k = (h.0, all_both P before rest h.1 k)
 
 -- ---- octets
 pub held_both : (before rest : List Partial) → octets_held (before ++ rest) ≡ octets_held before + octets_held rest
@@ -139,50 +127,18 @@ within_at store other held units octets h = record {
 }
 
 -- ---- finding a key
-pub same_numbers : (xs : List ℕ) → pointwise nat_eq xs xs ≡ true
-same_numbers [] = refl
-same_numbers (x ∷ xs) = grind (arith, same_numbers xs)
-
-both_true : (a b : Bool) → a ≡ true → b ≡ true → (a && b) ≡ true
-both_true a b h k = ap (λ (c : Bool). c && b) h ∙ k
-
 pub own_key : (unit : Partial) → has_key (key_of unit) unit ≡ true
-own_key unit = both_true _ _ (both_true _ _ (same_numbers unit.source) (same_numbers unit.destination)) (grind arith)
+own_key unit = and_from _ _ (and_from _ _ (nat_list_eq_equiv.refl unit.source) (nat_list_eq_equiv.refl unit.destination)) (eq-eqb unit.id unit.id refl)
 
 -- a unit that has not the key of another has another one
-apart_from : (key : Key) (units : List Partial) → list_any (has_key key) units ≡ false → AllByRecursion (λ other. key_of other ≢ key) units
-apart_from key [] h = tt
-apart_from key (x ∷ units) h =
+pub none_apart : (key : Key) (units : List Partial) → list_any (has_key key) units ≡ false → AllByRecursion (λ other. key_of other ≢ key) units
+none_apart key [] h = tt
+none_apart key (x ∷ units) h =
     let parts : (has_key key x ≡ false) × (list_any (has_key key) units ≡ false) = or_parts (has_key key x) (list_any (has_key key) units) h in
-    ((λ e. clashing (subst (λ (k : Key). has_key k x ≡ true) e (own_key x)) parts.0), apart_from key units parts.1)
+    ((λ e. clashing (subst (λ (k : Key). has_key k x ≡ true) e (own_key x)) parts.0), none_apart key units parts.1)
   where
     clashing : {b : Bool} → b ≡ true → b ≡ false → ⊥
     clashing h k = absurd cc
-
-pub none_apart : (key : Key) (units : List Partial) → list_any (has_key key) units ≡ false → AllByRecursion (λ other. key_of other ≢ key) units
-none_apart = apart_from
-
-none_before : (p : Partial → Bool) (units : List Partial) (place : ℕ) (d : Partial) → place < length units → ((k : ℕ) → k < place → p (get_or units k d) ≡ false)
-    → list_any p (take place units) ≡ false
-none_before p [] place d inside h = absurd (omega (arith, inside))
-none_before p (x ∷ units) zero d inside h = refl
-none_before p (x ∷ units) (suc place) d inside h =
-    ap (λ (b : Bool). b || list_any p (take place units)) (h 0 (omega arith)) ∙ none_before p units place d (omega (arith, inside)) (λ k low. h (suc k) (omega (arith, low)))
-
-past_none : (p : Partial → Bool) (xs : List Partial) → length xs ≤ position_or_len p xs → list_any p xs ≡ false
-past_none p [] past = refl
-past_none p (x ∷ xs) past = past_by (p x) refl past (past_none p xs)
-  where
-    past_by : (passes : Bool) → p x ≡ passes → length (x ∷ xs) ≤ cond (not passes) (1 + position_or_len p xs) 0 → (length xs ≤ position_or_len p xs → list_any p xs ≡ false) → (p x || list_any p xs) ≡ false
-    past_by true passes past rest = absurd (omega arith)
-    past_by false passes past rest = ap (λ (b : Bool). b || list_any p xs) passes ∙ rest (omega arith)
-
-pub none_there : (p : Partial → Bool) (xs : List Partial) → position p xs ≡ None → list_any p xs ≡ false
-none_there p xs is = none_at (nat_lt (position_or_len p xs) (length xs)) refl is
-  where
-    none_at : (within : Bool) → nat_lt (position_or_len p xs) (length xs) ≡ within → cond within (Some (position_or_len p xs)) None ≡ None → list_any p xs ≡ false
-    none_at true within is = absurd cc
-    none_at false within is = past_none p xs (ltb-false (position_or_len p xs) (length xs) within)
 
 -- the place where a key is found
 pub found_at : (key : Key) (units : List Partial) (place : ℕ) → position (has_key key) units ≡ Some place
@@ -242,3 +198,9 @@ same_got units place first second h k = let both : Some first ≡ Some second = 
   where
     some_same : (x y : Partial) → Some x ≡ Some y → x ≡ y
     some_same x y e = cc e
+
+-- what stands at a place of a store that is opened
+pub there_at : (had old : Holding) (place : ℕ) (unit : Partial) → had ≡ old → place < length old.held → unit ≡ get_or had.held place unit → slice_get old.held place ≡ Some unit
+there_at had old place unit view low is =
+    subst (λ (s : Holding). slice_get s.held place ≡ Some unit) view
+    (slice_get-get_or had.held place unit (omega (arith, low, ap (λ (s : Holding). length s.held) view)) ∙ sym (ap Some is))

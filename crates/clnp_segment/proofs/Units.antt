@@ -1,8 +1,10 @@
 -- What is held of a key stays of its unit: a segment of the key adds octets of the unit, and one of another key leaves it as it is.
 use Rattle.std.proofs.Common.{◌≡◌, ◌==◌, ◌&&◌, ℕ, zero, suc, ◌+◌, ◌-◌, Bool, true, false, List, [], ◌∷◌, ◌++◌, nat_eq, replicate, slice_get, Option, Some, None, refl, sym, ◌∙◌, ap, subst, arith}
 use Rattle.std.specs.List.{AllByRecursion}
-use Rattle.std.specs.Cmp.Lexicographic.{pointwise}
+use Rattle.std.specs.Cmp.Lexicographic.{pointwise, same_text}
+use Rattle.std.proofs.lemmas.Bool.{and_parts, eqb-true}
 use Rattle.std.proofs.lemmas.List.{length-replicate}
+use Rattle.osi_base.proofs.Members.{all_back, all_both, all_front}
 use Rattle.clnp_segment.specs.Joining.{Held, IsOf, IsSegmentOf, Segment, nothing_of}
 use Rattle.clnp_segment.specs.Store.{At, Coming, Holding, Key, Partial, TakesAt, found_or_nothing, has_key, key_of, partial_with}
 use Rattle.clnp_segment.specs.Units.{AnswersOnly, Came, IsOnly, TakesAll}
@@ -10,36 +12,19 @@ use Rattle.clnp_segment.specs.Laws.{JoinsAll}
 use Rattle.clnp_segment.specs.declared.store.Joined.{Joined}
 use Rattle.clnp_segment.specs.declared.store.Joined.TheVariants as joined
 use Rattle.clnp_segment.proofs.Joins.{units_kept, units_no_clash, units_whole}
-use Rattle.clnp_segment.proofs.Storing.{all_back, all_both, all_front}
 
 -- ---- keys
-and_parts : (a b : Bool) → (a && b) ≡ true → (a ≡ true) × (b ≡ true)
-and_parts true b h = (refl, h)
-and_parts false b h = absurd cc
-
 pub same_numbers : (xs ys : List ℕ) → pointwise nat_eq xs ys ≡ true → xs ≡ ys
-same_numbers [] [] h = refl
-same_numbers [] (y ∷ ys) h = absurd cc
-same_numbers (x ∷ xs) [] h = absurd cc
-same_numbers (x ∷ xs) (y ∷ ys) h =
-    let parts : (nat_eq x y ≡ true) × (pointwise nat_eq xs ys ≡ true) = and_parts (nat_eq x y) (pointwise nat_eq xs ys) h in
-    let first : x ≡ y = one x y parts.0 in
-    ap (λ (n : ℕ). n ∷ xs) first ∙ ap (λ (ns : List ℕ). y ∷ ns) (same_numbers xs ys parts.1)
-  where
-    one : (x y : ℕ) → nat_eq x y ≡ true → x ≡ y
-    one x y h = grind (arith, h)
+same_numbers xs ys h = same_text xs ys (sym h)
 
 pub key_there : (key : Key) (unit : Partial) → has_key key unit ≡ true → key_of unit ≡ key
 key_there key unit h =
     let all : ((pointwise nat_eq unit.source key.source && pointwise nat_eq unit.destination key.destination) ≡ true) × ((unit.id == key.id) ≡ true) = and_parts _ _ h in
     let two : (pointwise nat_eq unit.source key.source ≡ true) × (pointwise nat_eq unit.destination key.destination ≡ true) = and_parts _ _ all.0 in
-    let id : unit.id ≡ key.id = one unit.id key.id all.1 in
+    let id : unit.id ≡ key.id = eqb-true unit.id key.id all.1 in
     ap (λ (xs : List ℕ). let k : Key = record { source = xs; destination = unit.destination; id = unit.id } in k) (same_numbers unit.source key.source two.0)
     ∙ ap (λ (xs : List ℕ). let k : Key = record { source = key.source; destination = xs; id = unit.id } in k) (same_numbers unit.destination key.destination two.1)
     ∙ ap (λ (n : ℕ). let k : Key = record { source = key.source; destination = key.destination; id = n } in k) id
-  where
-    one : (x y : ℕ) → (x == y) ≡ true → x ≡ y
-    one x y h = grind (arith, h)
 
 -- ---- nothing is of each unit
 pub empty_place : (n p octet : ℕ) → slice_get (replicate {A = Option ℕ} n None) p ≡ Some (Some octet) → ⊥

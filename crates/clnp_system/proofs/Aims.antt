@@ -5,10 +5,10 @@ use Rattle.clnp_options.specs.SourceRoute.{HasSourceRoute, IsSourceRoute, Source
 use Rattle.clnp_options.proofs.Found.{found_known, known_route}
 use Rattle.clnp_header.specs.declared.pdu.PduRef.{PduRef}
 use Rattle.clnp_header.specs.Values as values
-use Rattle.clnp_system.specs.declared.aim.Aim.{Aim}
-use Rattle.clnp_system.specs.declared.aim.Aim.TheVariants.{Free}
+use Rattle.clnp_system.specs.declared.source_routing.Aim.{Aim}
+use Rattle.clnp_system.specs.declared.source_routing.Aim.TheVariants.{Free}
 use Rattle.clnp_system.specs.Setting.{Setting}
-use Rattle.clnp_system.specs.Verdicts.{IsRoute, IsRouteOf, aim_at, aim_of}
+use Rattle.clnp_system.specs.SourceRouting.{IsRoute, IsRouteOf, aim_at, aim_of}
 use Rattle.clnp_system.specs.Written.{WasRead}
 use Rattle.clnp_system.proofs.Writable.{parameters_own, read_known}
 

@@ -19,15 +19,16 @@ use Rattle.clnp_segment.specs.declared.store.Joined.TheVariants as joined
 use Rattle.esis_pdu.specs.declared.hello.Hello.{Hello}
 use Rattle.esis_pdu.specs.declared.hello.Hello.TheVariants.{Esh, Ish, Rd}
 use Rattle.esis_tables.specs.Told.{Told}
-use Rattle.clnp_system.specs.declared.aim.Aim.{Aim}
-use Rattle.clnp_system.specs.declared.aim.Aim.TheVariants.{Free, Entry, Forbidden}
+use Rattle.clnp_system.specs.declared.source_routing.Aim.{Aim}
+use Rattle.clnp_system.specs.declared.source_routing.Aim.TheVariants.{Free, Entry, Forbidden}
 use Rattle.clnp_system.specs.declared.verdict.Verdict.{Verdict}
 use Rattle.clnp_system.specs.declared.verdict.Verdict.TheVariants.{Discard, Tell, Take, Join, Onward}
 use Rattle.clnp_system.specs.Setting.{Setting, bound_of, is_own_system}
 use Rattle.clnp_system.specs.Tables.{Tables}
 use Rattle.clnp_system.specs.Node.{Node, Frame, Reaction, at_tick}
 use Rattle.clnp_system.specs.Written.{HasPdu}
-use Rattle.clnp_system.specs.Verdicts.{by_aim, aim_of, for_this, to_destination, to_entry, verdict, whole_or_part}
+use Rattle.clnp_system.specs.Verdicts.{by_aim, for_this, to_destination, to_entry, verdict, whole_or_part}
+use Rattle.clnp_system.specs.SourceRouting.{aim_of}
 use Rattle.clnp_system.specs.Reporting.{discarded_pdu}
 use Rattle.clnp_system.specs.Hearing.{HeardBy, HeedsIf, Hears, RedirectedBy, only_note}
 use Rattle.clnp_system.specs.Receiving.{Elsewhere, Alien, Faulty, Reads, BadHello, HearsHello, Does, JoinGives, came, coming, told_reason}

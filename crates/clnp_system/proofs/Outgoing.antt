@@ -41,7 +41,8 @@ use Rattle.clnp_system.specs.declared.verdict.Verdict.{Verdict}
 use Rattle.clnp_system.specs.declared.verdict.Verdict.TheVariants.{Discard, Tell, Take, Join, Onward}
 use Rattle.clnp_system.specs.Verdicts.{verdict, for_this, whole_or_part}
 use Rattle.clnp_system.specs.Reporting.{Discarded, FitsOne, GoesBy, ReportsIf, Reports, discarded_octets, discarded_pdu, report_pdu}
-use Rattle.clnp_system.specs.Hellos.{AreHellos, HellosIf, ToSenderIf, AnswersGroup, hearers, is_due, is_detour, own_esh, own_hello, sender}
+use Rattle.clnp_system.specs.Hellos.{AreHellos, HellosIf, ToSenderIf, AnswersGroup, hearers, is_due, own_esh, own_hello, sender}
+use Rattle.clnp_system.specs.Redirect.{is_detour}
 use Rattle.clnp_system.specs.Forwarding.{GoesOnward, IsOnward, Sent, TooLong}
 use Rattle.clnp_system.specs.Receiving.{Elsewhere, Alien, Faulty, Reads, BadHello, HearsHello, Does, JoinGives}
 use Rattle.clnp_system.specs.Ticking.{ReportsEach, discarded_unit, expiry_note}

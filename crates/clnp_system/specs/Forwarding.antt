@@ -10,7 +10,7 @@ use Rattle.clnp_system.specs.Setting.{Setting, bound_of, is_own_title}
 use Rattle.clnp_system.specs.Tables.{Tables}
 use Rattle.clnp_system.specs.Node.{Node, Frame, Reaction}
 use Rattle.clnp_system.specs.Written.{CutFrames}
-use Rattle.clnp_system.specs.Hellos.{RedirectsTo}
+use Rattle.clnp_system.specs.Redirect.{RedirectsTo}
 use Rattle.clnp_system.specs.Reporting.{Discarded, Discards}
 
 -- the own title, where it stands at the offset, is passed

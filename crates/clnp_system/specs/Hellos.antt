@@ -1,10 +1,8 @@
 -- Hellos and redirects that a system sends (ISO 9542, report configuration, request redirect).
-use Rattle.std.specs.Prelude.{◌≡◌, ℕ, ◌==◌, ◌%◌, Bool, true, false, ◌&&◌, not, nat_eq, nat_lt, List, [], ◌∷◌}
-use Rattle.std.specs.Cmp.Lexicographic.{pointwise}
+use Rattle.std.specs.Prelude.{◌≡◌, ℕ, ◌==◌, ◌%◌, Bool, true, false, ◌&&◌, nat_lt, List, [], ◌∷◌}
 use Rattle.nsap.specs.declared.port.Port.{Port}
-use Rattle.nsap.specs.declared.port.Hop.{Hop}
 use Rattle.esis_pdu.specs.declared.hello.Hello.{Hello}
-use Rattle.esis_pdu.specs.declared.hello.Hello.TheVariants.{Esh, Ish, Rd}
+use Rattle.esis_pdu.specs.declared.hello.Hello.TheVariants.{Esh, Ish}
 use Rattle.clnp_system.specs.Setting.{Setting, own_address, all_ends, all_intermediates, is_group}
 use Rattle.clnp_system.specs.Node.{Frame}
 use Rattle.clnp_system.specs.Written.{IsHelloFrame}
@@ -53,11 +51,3 @@ ToSenderIf true setting to hello frames = (one : Frame) × IsHelloFrame setting 
 -- step 1, last: a DT PDU in a group frame that was not discarded is answered by the ESH
 abbrev pub AnswersGroup : Setting → Port → Port → List Frame → Type 0
 AnswersGroup setting from at frames = ToSenderIf (is_group at.snpa) setting (sender from at) (own_esh setting) frames
-
--- step 6, last: the hop is on the LAN on which the frame came, and is not its sender
-abbrev pub is_detour : Port → Port → Hop → Bool
-is_detour from at hop = hop.port.lan == at.lan && not (pointwise nat_eq hop.port.snpa from.snpa)
-
-abbrev pub RedirectsTo : Setting → Port → Port → List ℕ → Hop → List Frame → Type 0
-RedirectsTo setting from at destination hop frames =
-    ToSenderIf (is_detour from at hop) setting (sender from at) (Rd setting.hold destination hop.port.snpa hop.title) frames

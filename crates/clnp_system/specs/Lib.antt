@@ -7,9 +7,11 @@ pub mod Identifiers
 pub mod Laws
 pub mod Node
 pub mod Receiving
+pub mod Redirect
 pub mod Reporting
 pub mod Sending
 pub mod Setting
+pub mod SourceRouting
 pub mod Tables
 pub mod Ticking
 pub mod Verdicts

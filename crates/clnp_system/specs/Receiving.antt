@@ -25,7 +25,8 @@ use Rattle.clnp_system.specs.Setting.{bound_of, port_on}
 use Rattle.clnp_system.specs.Tables.{Tables}
 use Rattle.clnp_system.specs.Node.{Node, Frame, Reaction, at_tick}
 use Rattle.clnp_system.specs.Written.{HasPdu, header_in}
-use Rattle.clnp_system.specs.Verdicts.{IsRouteOf, verdict}
+use Rattle.clnp_system.specs.Verdicts.{verdict}
+use Rattle.clnp_system.specs.SourceRouting.{IsRouteOf}
 use Rattle.clnp_system.specs.Reporting.{Discards, discarded_octets, discarded_pdu, wants_report}
 use Rattle.clnp_system.specs.Hellos.{AnswersGroup, sender}
 use Rattle.clnp_system.specs.Forwarding.{GoesOnward}

@@ -2,7 +2,8 @@
 use Rattle.std.specs.Prelude.{ℕ, nat_lt, if◌then◌else◌, List, Option, None, Some}
 use Rattle.nsap.specs.declared.port.Hop.{Hop}
 use Rattle.esis_tables.specs.Told.{Told}
-use Rattle.esis_tables.specs.Rows.{Rows, count_with, find_row, heard_table, router_in, swept_table}
+use Rattle.esis_tables.specs.Rows.{Rows, find_row, heard_table, router_in, swept_table}
+use Rattle.esis_tables.specs.Room.{count_with}
 
 -- the hop to an address, the hop to the known router of least title, what is known with one hello more (none where it is full), and after a tick
 pub record Tables (N : Type 0) : Type 0 where

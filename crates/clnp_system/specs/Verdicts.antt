@@ -1,50 +1,23 @@
 -- What a system does with a PDU, apart from doing it: steps 1 to 5 (X.233, header format analysis, lifetime control, source routing, route PDU).
-use Rattle.std.specs.Prelude.{ℕ, ◌==◌, Bool, false, ◌&&◌, ◌||◌, not, nat_eq, nat_lt, nat_le, if◌then◌else◌, List, [], ◌∷◌, Option, Some, None}
+use Rattle.std.specs.Prelude.{ℕ, ◌==◌, Bool, false, ◌&&◌, ◌||◌, not, nat_eq, nat_lt, nat_le, if◌then◌else◌, List, Option, Some, None}
 use Rattle.std.specs.Cmp.Lexicographic.{pointwise}
 use Rattle.nsap.specs.Address.{selector_of}
 use Rattle.nsap.specs.declared.port.Hop.{Hop}
-use Rattle.clnp_options.specs.Options.{value_of}
-use Rattle.clnp_options.specs.SourceRoute.{SourceRoute, IsSourceRoute}
+use Rattle.clnp_options.specs.SourceRoute.{SourceRoute}
 use Rattle.clnp_options.specs.declared.reason.PduKind.{PduKind}
 use Rattle.clnp_options.specs.declared.reason.PduKind.TheVariants.{Dt, Er}
 use Rattle.clnp_options.specs.declared.reason.Reason.TheVariants.{DestinationUnknown, DestinationUnreachable, LifetimeExpiredInTransit, PathNotAcceptable, SourceRoutingUnknownAddress}
 use Rattle.clnp_header.specs.declared.pdu.Pdu.{Pdu}
 use Rattle.clnp_header.specs.declared.pdu.SegmentPart.{SegmentPart}
-use Rattle.clnp_header.specs.Values.{parameters}
-use Rattle.clnp_system.specs.declared.aim.Aim.{Aim}
-use Rattle.clnp_system.specs.declared.aim.Aim.TheVariants.{Free, Entry, Forbidden}
+use Rattle.clnp_system.specs.declared.source_routing.Aim.{Aim}
+use Rattle.clnp_system.specs.declared.source_routing.Aim.TheVariants.{Free, Entry, Forbidden}
 use Rattle.clnp_system.specs.declared.verdict.Verdict.{Verdict}
 use Rattle.clnp_system.specs.declared.verdict.Verdict.TheVariants.{Discard, Tell, Take, Join, Onward}
-use Rattle.clnp_system.specs.Setting.{Setting, is_own_system, is_own_title}
+use Rattle.clnp_system.specs.Setting.{Setting, is_own_system}
 use Rattle.clnp_system.specs.Tables.{Tables}
 use Rattle.clnp_system.specs.Node.{Node}
 use Rattle.clnp_system.specs.Hops.{hop_of, hop_to}
-
--- the source route of a PDU, where it has one
-abbrev pub IsRoute : Option (List ℕ) → Option SourceRoute → Type 0
-IsRoute None None = Unit {0}
-IsRoute None (Some route) = ⊥
-IsRoute (Some value) None = ⊥
-IsRoute (Some value) (Some route) = IsSourceRoute value route
-
-abbrev pub IsRouteOf : Pdu → Option SourceRoute → Type 0
-IsRouteOf pdu route = IsRoute (value_of 0xc8 (parameters pdu.options)) route
-
--- step 4: the own title is passed; another one may stand there only in a partial route
-abbrev pub aim_behind : Bool → List (List ℕ) → Aim
-aim_behind complete [] = Free
-aim_behind complete (entry ∷ ahead) = Entry entry complete
-
-abbrev pub aim_at : Setting → Bool → List (List ℕ) → Aim
-aim_at setting complete [] = Free
-aim_at setting complete (entry ∷ ahead) =
-    if is_own_title setting entry then aim_behind complete ahead
-    else if complete then Forbidden
-    else Entry entry false
-
-abbrev pub aim_of : Setting → Option SourceRoute → Aim
-aim_of setting None = Free
-aim_of setting (Some route) = aim_at setting (route.kind == 1) route.ahead
+use Rattle.clnp_system.specs.SourceRouting.{aim_of}
 
 -- the hop has that title
 abbrev pub is_titled : Option (List ℕ) → List ℕ → Bool

@@ -2,7 +2,6 @@
 //! (X.233, functions of the protocol; ISO 9542, functions of the protocol).
 #![tactic(auto)]
 
-mod aim;
 mod answer;
 mod forwarding;
 mod framing;
@@ -12,12 +11,13 @@ mod redirect;
 mod report;
 mod sending;
 mod setup;
+mod source_routing;
 mod verdict;
 
-pub use aim::Aim;
 pub use answer::{Handled, NetSent, Outcome, UnitFrames};
 pub use framing::sender;
 pub use laws::{comes_up, derived, quiet_tick, sent, stored};
 pub use report::Reported;
 pub use setup::{Path, SystemSetup};
+pub use source_routing::Aim;
 pub use verdict::Verdict;

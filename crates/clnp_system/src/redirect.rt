@@ -3,7 +3,7 @@
 ghost use Rattle.std.specs.Prelude.{◌≡◌, ◌≤◌, IfOk, IsSome, length, option_to_list};
 ghost use Rattle.esis_pdu.specs.Hellos.{size_of, title_field};
 ghost use Rattle.esis_pdu.specs.declared.hello.Hello.TheVariants.{Rd};
-ghost use Rattle.clnp_system.specs.Hellos.{RedirectsTo, is_detour};
+ghost use Rattle.clnp_system.specs.Redirect.{RedirectsTo, is_detour};
 ghost use Rattle.clnp_system.specs.Setting.{port_on};
 
 use crate::framing::sender;

@@ -6,8 +6,10 @@ use Rattle.cltp.specs.declared.fault.UdFault.{UdFault}
 use Rattle.cltp.specs.Faults.{IsUdFault}
 use Rattle.cltp.specs.Ud.{Ud, IsUd}
 use Rattle.cltp.specs.steps.Reading.{read_at}
-use Rattle.cltp.proofs.FaultOrder.{fault_of, fault-read}
-use Rattle.cltp.proofs.ReadLaws.{ok_is, read_sound, read_complete}
+use Rattle.tpdu.proofs.FaultOrder.{fault_of}
+use Rattle.tpdu.proofs.Heads.{ok_is}
+use Rattle.cltp.proofs.FaultOrder.{fault-read}
+use Rattle.cltp.proofs.ReadLaws.{read_sound, read_complete}
 
 module _ {X : Type 0} (view : X → Ud) (octets : List ℕ) where
   pub ok_read : (r : Result X UdFault) → Gives view r (read_at octets) → IfOk r (λ x. IsUd octets (view x))

@@ -1,10 +1,10 @@
 -- A pass over the parameters, one step at a time: what it found so far, followed by what it finds in the octets that are left, is what
 -- it finds in all of them.
 use Rattle.std.proofs.Common.{◌≡◌, ℕ, ◌+◌, ◌<◌, List, [], ◌∷◌, length, Option, Some, None, Result, Ok, Err, refl, ap, subst, arith}
-use Rattle.std.specs.Option.{option_or}
 use Rattle.pdu_parts.specs.FirstFault.{first_failing}
 use Rattle.pdu_parts.specs.Parameter.{Parameter, front_parameter, parameters_in, left_in}
 use Rattle.pdu_parts.specs.steps.Reading.{unless}
+use Rattle.tpdu.proofs.Checks.{option_or-assoc, option_or-none}
 use Rattle.tpdu.proofs.Parts.{some_left}
 use Rattle.tpdu.proofs.Splits.{parameters-front, parameters-none}
 use Rattle.script_journal.specs.declared.cause.UdCause.{UdCause}
@@ -12,14 +12,6 @@ use Rattle.cltp.specs.declared.fault.UdFault.{UdFault}
 use Rattle.cltp.specs.Faults.{parameter_steps}
 use Rattle.cltp.specs.Parameters.{trouble}
 use Rattle.cltp.specs.steps.Reading.{Values, values_of, or_before, value_at, with_parameter, judged, parameter_by, parameter_at, checked}
-
-option_or-assoc : {T : Type 0} (a b c : Option T) → option_or (option_or a b) c ≡ option_or a (option_or b c)
-option_or-assoc None b c = refl
-option_or-assoc (Some x) b c = refl
-
-option_or-none : {T : Type 0} (a : Option T) → option_or a None ≡ a
-option_or-none None = refl
-option_or-none (Some x) = refl
 
 before-assoc : (a b c : Values) → or_before (or_before a b) c ≡ or_before a (or_before b c)
 before-assoc a b c = λ i. record {

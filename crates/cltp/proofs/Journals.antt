@@ -36,10 +36,7 @@ send_other system request (Dropped cause) = tt
 
 pub picked_other : (number system : ℕ) (answer : Picked) → IsOther (picked_event number system answer)
 picked_other number system picks.Taken = tt
-picked_other number system picks.NoSuch = tt
-picked_other number system picks.Late = tt
-picked_other number system picks.NotThere = tt
-picked_other number system picks.NotOurs = tt
+picked_other number system answer = tt
 
 note_other : (note : Note) → IsOther (events.Net note)
 note_other note = tt

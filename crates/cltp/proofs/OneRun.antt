@@ -1,18 +1,19 @@
 -- A call has one list of events and leads to one state: the carrier is asked alike, so it answers alike and leads to one state, what waits
 -- there is taken up in one way, and each unit among it gives one event.
-use Rattle.std.proofs.Common.{◌≡◌, ◌⊎◌, ℕ, ◌+◌, ◌<◌, ◌≤◌, Bool, true, false, nat_lt, List, [], ◌∷◌, ◌++◌, length, Some, None, refl, sym, ◌∙◌, ap, subst, inl, inr, arith}
+use Rattle.std.proofs.Common.{◌≡◌, ℕ, ◌+◌, Bool, true, false, nat_lt, List, [], ◌∷◌, ◌++◌, length, Some, refl, sym, ◌∙◌, ap, subst, arith}
 use Rattle.osi_base.specs.declared.unit.Offered.{Offered}
 use Rattle.osi_base.specs.declared.unit.Picked.{Picked}
 use Rattle.osi_base.specs.declared.unit.Picked.TheVariants.{Taken as WasPicked}
 use Rattle.osi_base.specs.declared.unit.Unit.{Unit as CarriedUnit}
 use Rattle.osi_base.specs.declared.unit.Up.{Up}
 use Rattle.osi_base.specs.declared.unit.Up.TheVariants.{Unit as Came, Note as Noted}
-use Rattle.osi_base.specs.Link.{Link, IsLeastFresh, is_fresh}
+use Rattle.osi_base.specs.Link.{Link}
 use Rattle.osi_base.specs.Calls.{Call, Offer, Choose, Tick}
 use Rattle.script_journal.specs.declared.cause.Settled.{Settled}
 use Rattle.script_journal.specs.declared.cause.Settled.TheVariants as settled
 use Rattle.law_carrier_answers.specs.Answers.{OneStep, OneGathering, asked_of, Offering}
 use Rattle.net_world.specs.Told.{told, picked_event}
+use Rattle.net_world.proofs.OneRun.{Same, least_none, least_one}
 use Rattle.script_journal.specs.declared.event.Event.{Event}
 use Rattle.script_journal.specs.declared.event.Event.TheVariants as events
 use Rattle.cltp.specs.declared.sending.Request.{Request}
@@ -26,28 +27,6 @@ use Rattle.cltp.specs.Systems.{World}
 use Rattle.cltp.proofs.Hearings.{one_hearing}
 use Rattle.cltp.proofs.Written.{one_writing}
 
--- ---- the least pair that was not taken
-
--- one pair comes before another, or is that one
-least_same : (one other : ℕ × ℕ) → ((one.0 < other.0) ⊎ ((one.0 ≡ other.0) × (one.1 ≤ other.1))) → ((other.0 < one.0) ⊎ ((other.0 ≡ one.0) × (other.1 ≤ one.1))) → one ≡ other
-least_same one other up down =
-    let first : one.0 ≡ other.0 = elim up [ inl low ↦ elim down [ inl high ↦ absurd (omega (arith, low, high)) | inr same ↦ sym same.0 ] | inr same ↦ same.0 ] in
-    let second : one.1 ≡ other.1 = elim up [
-      | inl low ↦ absurd (omega (arith, low, first))
-      | inr same ↦ elim down [ inl high ↦ absurd (omega (arith, high, first)) | inr back ↦ omega (arith, same.1, back.1) ]
-    ] in
-    λ i. (first i, second i)
-
-least_one : {A : Type 0} (link : Link A) (one other : ℕ × ℕ) → IsLeastFresh link (Some one) → IsLeastFresh link (Some other) → one ≡ other
-least_one link one other a b = least_same one other (a.1 other.0 other.1 b.0) (b.1 one.0 one.1 a.0)
-
-least_none : {A : Type 0} (link : Link A) (pair : ℕ × ℕ) → IsLeastFresh link None → IsLeastFresh link (Some pair) → ⊥
-least_none link pair a b =
-    let none : is_fresh link pair.0 pair.1 ≡ false = a pair.0 pair.1 in
-    let some : is_fresh link pair.0 pair.1 ≡ true = b.0 in
-    let apart : false ≡ true = sym none ∙ some in
-    absurd cc
-
 -- ---- what came up
 
 heard_one : (systems : List ClSystem) (ups : List (Up (List ℕ))) (heard other : List Event) → HearsAll systems ups heard → HearsAll systems ups other → heard ≡ other
@@ -57,11 +36,6 @@ heard_one systems (Came arrival ∷ ups) heard other h k =
     let here = one_hearing.one systems arrival h.0 k.0 h.2 k.2 in
     let rest = heard_one systems ups h.1 k.1 h.3 k.3 in
     h.4 ∙ (λ i. here i ++ rest i) ∙ sym k.4
-
--- two runs of a call that have the same events and lead to the same state
-pub record Same {S : Type 0} (made other : List Event) (new next : S) : Type 0 where
-  pub events : made ≡ other
-  pub state : new ≡ next
 
 module _ {C : Type 0} (link : C → Link (List ℕ)) (steps : C → Call (List ℕ) → C → Type 0) (once : OneStep steps) (gathers : OneGathering link steps) where
   takes_one : (systems : List ClSystem) (old : C) (made other : List Event) (new next : C) → TakesUp link steps systems old made new → TakesUp link steps systems old other next → Same made other new next

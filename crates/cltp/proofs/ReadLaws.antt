@@ -1,19 +1,17 @@
 -- What is read is a UD by the grammar, and what is one is read.
-use Rattle.std.proofs.Common.{◌≡◌, ℕ, suc, ◌+◌, ◌<◌, ◌≤◌, ◌≢◌, Bool, true, false, cond, not, ◌||◌, leb, ltb, nat_eq, List, ◌∷◌, ◌++◌, length, drop, Option, Some, None, Result, Ok, Err, refl, sym, ap, ◌∙◌, arith}
+use Rattle.std.proofs.Common.{◌≡◌, ℕ, suc, ◌+◌, ◌<◌, ◌≤◌, Bool, true, false, not, leb, ltb, nat_eq, List, ◌∷◌, ◌++◌, length, drop, Option, Some, None, Ok, refl, sym, ap, ◌∙◌, arith}
 use Rattle.std.specs.Prelude.{is_some, slice_index, ⊤}
 use Rattle.std.specs.List.{AllByRecursion}
-use Rattle.std.proofs.lemmas.Bool.{eqb-true, eqb-false, leb-false, ltb-false, le-ltb, lt-leb, ne_eqb, eq-eqb}
+use Rattle.std.proofs.lemmas.Bool.{eqb-true, le-ltb, lt-leb, ne_eqb, eq-eqb}
 use Rattle.std.proofs.lemmas.List.{append-nil}
 use Rattle.osi_base.specs.Fletcher.{is_sealed}
 use Rattle.pdu_parts.specs.FirstFault.{first_failing}
 use Rattle.pdu_parts.specs.Parameter.{Parameter, spelled, parameters_in, left_in}
-use Rattle.pdu_parts.specs.steps.Reading.{◌>>=◌, unless}
 use Rattle.tpdu.specs.Faults.{indicator, header, behind}
 use Rattle.tpdu.specs.Parameters.{last_value, sum_place}
-use Rattle.tpdu.proofs.Heads.{or_false, cut, Fronted, refront}
+use Rattle.tpdu.proofs.Heads.{Fronted, bind_ok, cut, guard_ok, is_unusable, ok_is, pass_ok, refront, unless_ok, usable}
 use Rattle.tpdu.proofs.Parts.{is_some-sum_place}
 use Rattle.tpdu.proofs.Splits.{parameters-spelled, spelled-parameters}
-use Rattle.cltp.specs.declared.fault.UdFault.{UdFault}
 use Rattle.script_journal.specs.declared.cause.UdCause.TheVariants.{Checksum}
 use Rattle.cltp.specs.Faults.{fault_at, parameter_steps}
 use Rattle.cltp.specs.Parameters.{Suits}
@@ -22,28 +20,6 @@ use Rattle.cltp.specs.steps.Reading.{Values, values_of, checked, Head, head_of, 
 use Rattle.cltp.proofs.Parts.{steps-none, none-steps}
 
 -- ---- steps that passed
-
-bind_ok : {A B F : Type 0} (r : Result A F) (f : A → Result B F) (y : B) → (r >>= f) ≡ Ok y → (x : A) × (r ≡ Ok x) × (f x ≡ Ok y)
-bind_ok (Ok x) f y e = (x, refl, e)
-bind_ok (Err d) f y e = absurd cc
-
-abbrev done : {A : Type 0} → A → Result A UdFault
-done x = Ok x
-
-pub ok_is : {A : Type 0} (x y : A) → done x ≡ done y → x ≡ y
-ok_is x y e = cc
-
-guard_ok : {A : Type 0} (b : Bool) (f : UdFault) (r : Result A UdFault) (y : A) → cond b (Err f) r ≡ Ok y → (b ≡ false) × (r ≡ Ok y)
-guard_ok true f r y e = absurd cc
-guard_ok false f r y e = (refl, e)
-
-pass_ok : {A : Type 0} (b : Bool) (r : Result A UdFault) (f : UdFault) (y : A) → cond b r (Err f) ≡ Ok y → b ≡ true
-pass_ok true r f y e = refl
-pass_ok false r f y e = absurd cc
-
-unless_ok : {A : Type 0} (o : Option UdFault) (x y : A) → unless o x ≡ Ok y → (o ≡ None) × (x ≡ y)
-unless_ok None x y e = (refl, ok_is x y e)
-unless_ok (Some f) x y e = absurd cc
 
 not_false : (b : Bool) → not b ≡ false → b ≡ true
 not_false true e = refl
@@ -59,20 +35,11 @@ record HeadIs (octets : List ℕ) (head : Head) : Type 0 where
 head_ok : (octets : List ℕ) (head : Head) → head_at octets ≡ Ok head → HeadIs octets head
 unfolding head_at
 head_ok octets head e =
-    let i = indicator octets in
     let a = guard_ok (ltb (length octets) 2) _ _ head e in
-    let b = guard_ok (nat_eq i 0 || ltb 254 i || leb (length octets) i) _ _ head a.1 in
-    let c = or_false (nat_eq i 0 || ltb 254 i) (leb (length octets) i) b.0 in
-    let d = or_false (nat_eq i 0) (ltb 254 i) c.0 in
+    let b = guard_ok (is_unusable octets) _ _ head a.1 in
+    let i = usable octets b.0 in
     let h = guard_ok (not (nat_eq (slice_index octets 1) 0x40)) _ _ head b.1 in
-    let some : i ≢ 0 = eqb-false _ _ d.0 in
-    record {
-      least = omega arith;
-      most = leb-false _ _ c.1;
-      used = ltb-false _ _ d.1;
-      code = eqb-true _ _ (not_false _ h.0);
-      is = ok_is (head_of octets) head h.1;
-    }
+    record { least = i.0; most = i.1; used = i.2; code = eqb-true _ _ (not_false _ h.0); is = ok_is (head_of octets) head h.1 }
 
 both_ok : (a b : Option (List ℕ)) (s : Selectors) → both a b ≡ Ok s → (a ≡ Some s.from) × (b ≡ Some s.to)
 both_ok None b s e = absurd cc
@@ -84,7 +51,7 @@ both_ok (Some from) (Some to) s e =
 close_ok : (sum : Option ℕ) (octets : List ℕ) (x : ⊤) → close_at sum octets ≡ Ok x → is_some sum ≡ true → is_sealed octets ≡ true
 unfolding close_at
 close_ok None octets x e h = absurd cc
-close_ok (Some place) octets x e h = pass_ok (is_sealed octets) (Ok tt) (fault_at Checksum place) x e
+close_ok (Some place) octets x e h = (pass_ok (is_sealed octets) (fault_at Checksum place) (Ok tt) x e).0
 
 pub read_sound : (octets : List ℕ) (ud : Ud) → read_at octets ≡ Ok ud → IsUd octets ud
 unfolding read_at checked

@@ -5,19 +5,18 @@ use Rattle.std.specs.Prelude.{◌&&◌, not, IsTrue}
 use Rattle.std.proofs.lemmas.Bool.{cases_eq}
 use Rattle.osi_base.specs.Fletcher.{place_sum}
 use Rattle.osi_base.proofs.FletcherPair.{seals_pair}
-use Rattle.osi_base.specs.declared.unit.Offered.{Offered}
 use Rattle.osi_base.specs.declared.unit.Picked.{Picked}
 use Rattle.osi_base.specs.declared.unit.Picked.TheVariants.{Taken as WasPicked}
 use Rattle.osi_base.specs.declared.unit.Unit.{Unit as CarriedUnit}
 use Rattle.osi_base.specs.declared.unit.Up.{Up}
 use Rattle.osi_base.specs.declared.unit.Up.TheVariants.{Unit as Came, Note as Noted}
-use Rattle.osi_base.specs.declared.unit.Wish.{Wish}
 use Rattle.osi_base.specs.Link.{Link, IsLeastFresh}
-use Rattle.osi_base.specs.Calls.{Call, Offer, Choose, Inject, Keeps, NextUp, Tick}
+use Rattle.osi_base.specs.Calls.{Call, Offer, Choose, Keeps, Tick}
 use Rattle.script_journal.specs.declared.cause.Refused.TheVariants.{TooLong}
 use Rattle.script_journal.specs.declared.cause.Settled.{Settled}
 use Rattle.script_journal.specs.declared.cause.Settled.TheVariants as settled
 use Rattle.law_carrier_answers.specs.Answers.{AreOctets, CanBeAsked, Choosing, MayBeOffered, Offering, Ticking, asked_of}
+use Rattle.law_carrier_answers.proofs.Answered.{answered_by}
 use Rattle.law_carrier_answers.proofs.Gatherings.{some_gathering}
 use Rattle.net_world.specs.Told.{told, picked_event}
 use Rattle.script_journal.specs.declared.event.Event.{Event}
@@ -79,42 +78,7 @@ some_writing ud from to from_octets to_octets octets =
       are = octets_both front (x.0 ∷ y.0 ∷ ud.octets) header (x.1.used.1, (y.1.used.1, octets));
     }
 
--- ---- what a carrier answers
-
-record IsOffered {C : Type 0} (steps : C → Call (List ℕ) → C → Type 0) (old : C) (unit : CarriedUnit (List ℕ)) (wish : Wish) (new : C) : Type 0 where
-  answer : Offered
-  steps_to : steps old (Offer unit wish answer) new
-
-offer_by : {C : Type 0} (steps : C → Call (List ℕ) → C → Type 0) (old : C) (unit : CarriedUnit (List ℕ)) (wish : Wish) (call : Call (List ℕ)) (new : C)
-    → asked_of call ≡ Offering unit wish → steps old call new → IsOffered steps old unit wish new
-offer_by steps old unit wish (Offer other likewise answer) new e s =
-    let same : Offer other likewise answer ≡ Offer unit wish answer = cc in
-    record { answer = answer; steps_to = subst (λ (c : Call (List ℕ)). steps old c new) same s }
-offer_by steps old unit wish (Choose pick system answer) new e s = absurd cc
-offer_by steps old unit wish (Inject lan system octets answer) new e s = absurd cc
-offer_by steps old unit wish (NextUp answer) new e s = absurd cc
-offer_by steps old unit wish Tick new e s = absurd cc
-
-record IsChosen {C : Type 0} (steps : C → Call (List ℕ) → C → Type 0) (old : C) (pick system : ℕ) (new : C) : Type 0 where
-  answer : Picked
-  steps_to : steps old (Choose pick system answer) new
-
-choose_by : {C : Type 0} (steps : C → Call (List ℕ) → C → Type 0) (old : C) (pick system : ℕ) (call : Call (List ℕ)) (new : C)
-    → asked_of call ≡ Choosing pick system → steps old call new → IsChosen steps old pick system new
-choose_by steps old pick system (Offer unit wish answer) new e s = absurd cc
-choose_by steps old pick system (Choose other at answer) new e s =
-    let same : Choose other at answer ≡ Choose pick system answer = cc in
-    record { answer = answer; steps_to = subst (λ (c : Call (List ℕ)). steps old c new) same s }
-choose_by steps old pick system (Inject lan at octets answer) new e s = absurd cc
-choose_by steps old pick system (NextUp answer) new e s = absurd cc
-choose_by steps old pick system Tick new e s = absurd cc
-
-tick_by : {C : Type 0} (steps : C → Call (List ℕ) → C → Type 0) (old : C) (call : Call (List ℕ)) (new : C) → asked_of call ≡ Ticking → steps old call new → steps old Tick new
-tick_by steps old (Offer unit wish answer) new e s = absurd cc
-tick_by steps old (Choose pick system answer) new e s = absurd cc
-tick_by steps old (Inject lan system octets answer) new e s = absurd cc
-tick_by steps old (NextUp answer) new e s = absurd cc
-tick_by steps old Tick new e s = s
+-- ---- calls
 
 -- what came up gives its events
 heard_some : (systems : List ClSystem) (ups : List (Up (List ℕ))) → (heard : List Event) × HearsAll systems ups heard
@@ -174,14 +138,14 @@ module _ {C : Type 0} (link : C → Link (List ℕ)) (steps : C → Call (List �
       let unit : CarriedUnit (List ℕ) = record { from = may.own.own; to = request.to; octets = w.octets } in
       let fits : MayBeOffered is_address unit = record { from = may.from; to = may.to; octets = w.are } in
       let a = serves.answers.answered old.carrier (Offering unit ud_wish) stands fits in
-      let done = offer_by steps old.carrier unit ud_wish a.call a.new a.is_asked a.steps_to in
-      let m = arrived old (Offer unit ud_wish done.answer) (send_event system request done.answer) a.new stands fits done.steps_to in
+      let done = answered_by steps old.carrier (Offering unit ud_wish) a in
+      let m = arrived old (Offer unit ud_wish done.0) (send_event system request done.0) a.new stands fits done.1 in
       record {
-        answer = answer_of done.answer;
+        answer = answer_of done.0;
         makes = record {
           made = m.made;
           new = m.new;
-          runs = record { own = may.own; octets = w.octets; offered = done.answer; own_is = may.own_is; written = w.written; arrives = m.runs; answer_is = refl };
+          runs = record { own = may.own; octets = w.octets; offered = done.0; own_is = may.own_is; written = w.written; arrives = m.runs; answer_is = refl };
           stands = m.stands;
           same = m.same;
         };
@@ -195,11 +159,11 @@ module _ {C : Type 0} (link : C → Link (List ℕ)) (steps : C → Call (List �
   delivered : (old : World C) (number system : ℕ) → Stands old.carrier → Delivered old number system
   delivered old number system stands =
       let a = serves.answers.answered old.carrier (Choosing number system) stands tt in
-      let done = choose_by steps old.carrier number system a.call a.new a.is_asked a.steps_to in
-      let k = keeps old.carrier (Choose number system done.answer) a.new done.steps_to in
+      let done = answered_by steps old.carrier (Choosing number system) a in
+      let k = keeps old.carrier (Choose number system done.0) a.new done.1 in
       record {
-        answer = done.answer;
-        makes = arrived old (Choose number system done.answer) (picked_event number system done.answer) a.new stands tt done.steps_to;
+        answer = done.0;
+        makes = arrived old (Choose number system done.0) (picked_event number system done.0) a.new stands tt done.1;
         picked = k.answers.1;
       }
 
@@ -258,7 +222,7 @@ module _ {C : Type 0} (link : C → Link (List ℕ)) (steps : C → Call (List �
       record { made = d.makes.made; new = d.makes.new; runs = (d.answer, d.makes.runs); stands = d.makes.stands; same = d.makes.same }
   some_call old TicksOnce stands may =
       let a = serves.answers.answered old.carrier Ticking stands may in
-      let m = arrived old Tick (events.Tick ((link old.carrier).clock + 1)) a.new stands may (tick_by steps old.carrier a.call a.new a.is_asked a.steps_to) in
+      let m = arrived old Tick (events.Tick ((link old.carrier).clock + 1)) a.new stands may (answered_by steps old.carrier Ticking a) in
       record { made = m.made; new = m.new; runs = m.runs; stands = m.stands; same = m.same }
   some_call old Settling stands may =
       let e = ends 65536 0 old refl stands in

@@ -1,15 +1,19 @@
 //! What the network hands up: it is told, and behind all of it what the units among it give (X.234, unit data transfer).
 
-ghost use Rattle.std.specs.Prelude.{OnOk};
-ghost use Rattle.cltp.specs.Hearing.{Hears};
+ghost use Rattle.std.specs.Prelude.{OnOk, ◌≡◌, IfOk};
+ghost use Rattle.cltp.specs.Hearing.{Hears, TellsOf};
 ghost use Rattle.cltp.specs.Run.{TakesUp, Tells};
 ghost use Rattle.cltp.specs.steps.TakingUp.{HearsUp};
+ghost use Rattle.script_journal.specs.declared.event.Event.TheVariants.{Datagram};
+ghost use Rattle.cltp.specs.Ud.{ud_of};
 
+use crate::reading::read_ud;
 use crate::system::{ClSystem, system_at};
-use net_world::tell;
+use crate::ud::UdRef;
+use net_world::{address, tell};
 use nsap::Nsap;
-use osi_base::{Arrival, Carrier, NoMemory, Up};
-use script_journal::Event;
+use osi_base::{Arrival, Bytes, Carrier, NoMemory, Unit, Up};
+use script_journal::{Boxed, Event};
 use std::alloc::Global;
 
 /// Takes up all that waits and tells it, and then what the units among it give, which `heard` keeps meanwhile.
@@ -64,4 +68,49 @@ fn hear(
     let event = own.hear(alloc, &arrival.unit)?;
     heard.push(event)?;
     Ok(())
+}
+
+impl ClSystem {
+    /// What a unit for its users gives.
+    pub(crate) fn hear(&self, alloc: Global, unit: &Unit<Nsap>) -> Result<Event, NoMemory>
+        ensures { IfOk result (λ event. TellsOf self.now unit.now event) }
+    {
+        let ud = match read_ud(unit.octets.as_slice()) {
+            Ok(ud) => ud,
+            Err(fault) => {
+                return Ok(Event::BadUd {
+                    system: self.system,
+                    cause: fault.cause,
+                    place: fault.place,
+                });
+            }
+        };
+        if !self.has_selector(ud.to_selector) {
+            return Ok(Event::NoUser {
+                system: self.system,
+            });
+        }
+        datagram(alloc, self.system, &unit.from, &ud)
+    }
+}
+
+/// The event of a UD from an address that is shown to a user.
+fn datagram(alloc: Global, system: u8, from: &Nsap, ud: &UdRef<'_>) -> Result<Event, NoMemory>
+    ensures { IfOk result (λ event. event ≡ Datagram system from.now (ud_of ud.now).from (ud_of ud.now).to (ud_of ud.now).octets) }
+{
+    Ok(Event::Datagram {
+        system,
+        from: address(from),
+        calling: copied(alloc, ud.from_selector)?,
+        called: copied(alloc, ud.to_selector)?,
+        octets: copied(alloc, ud.octets)?,
+    })
+}
+
+/// Octets that are copied to stand apart.
+fn copied(alloc: Global, octets: &[u8]) -> Result<Boxed<Bytes>, NoMemory>
+    ensures { IfOk result (λ copy. copy ≡ octets.now) }
+{
+    let copy = Bytes::copy(alloc, octets)?;
+    Boxed::new(alloc, copy)
 }

@@ -8,6 +8,7 @@ mod laws;
 mod parameter;
 mod reading;
 mod sending;
+mod settling;
 mod system;
 mod ud;
 mod world;

@@ -5,7 +5,6 @@ ghost use Rattle.osi_base.specs.declared.unit.Picked.TheVariants.{Taken};
 ghost use Rattle.cltp.specs.Run.{Delivers, Sends, Settles, Starts, TakesUp, Tells, Ticks};
 ghost use Rattle.cltp.specs.Systems.{system_at};
 ghost use Rattle.cltp.specs.Ud.{IsSelector};
-ghost use Rattle.cltp.specs.steps.TakingUp.{SettlesSo};
 
 use crate::hearing::take_up;
 use crate::sending::{ClAnswer, MOST_OCTETS, Request, WISH, answer_of, octets_of, send_event};
@@ -17,9 +16,6 @@ use script_journal::{Event, Refused, Settled};
 use std::alloc::Global;
 use std::marker::Model;
 
-/// The most deliveries of one `settle`.
-const MOST_DELIVERIES: u32 = 65_536;
-
 /// A network over which the users of its systems send one another datagrams: each call adds its own event, then those of all that the
 /// network tells, and then one for each unit that came to a user's address.
 ///
@@ -27,7 +23,7 @@ const MOST_DELIVERIES: u32 = 65_536;
 #[derive(Drop)]
 pub struct ClWorld<C: Carrier<Addr = Nsap> + Drop> {
     alloc: Global,
-    carrier: C,
+    pub(crate) carrier: C,
     systems: Vec<ClSystem>,
     /// Holds nothing between calls, but has room.
     heard: Vec<Event>,
@@ -147,22 +143,6 @@ impl<C: Carrier<Addr = Nsap> + Drop> ClWorld<C> {
         let answer = self.deliver_all(events)?;
         events.push(Event::Settle { answer })?;
         Ok(answer)
-    }
-
-    /// The deliveries of a `settle`, and how they end.
-    fn deliver_all(&mut self, events: &mut Vec<Event>) -> Result<Settled, NoMemory>
-        ensures { IfOk result (λ answer. Tells events.old.items events.new.items (λ made. SettlesSo C.link C.steps self.old made answer self.new)) }
-    {
-        for count in 0..MOST_DELIVERIES {
-            let Some((number, system)) = self.carrier.fresh() else {
-                return Ok(Settled::Settled(count));
-            };
-            self.deliver(number, system, events)?;
-        }
-        let Some(_) = self.carrier.fresh() else {
-            return Ok(Settled::Settled(MOST_DELIVERIES));
-        };
-        Ok(Settled::Stopped(MOST_DELIVERIES))
     }
 
     /// Takes up all that waits and tells it, and then what the units among it give.

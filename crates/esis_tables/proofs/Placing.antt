@@ -11,12 +11,14 @@ use Rattle.std.proofs.lemmas.Bool.{cases_eq, or_left, or_right}
 use Rattle.std.proofs.lemmas.List.Folds.{list_any-append}
 use Rattle.std.proofs.lemmas.List.Elements.{All-push, All-weaker}
 use Rattle.std.proofs.lemmas.List.Quantifiers.{position-Some}
+use Rattle.osi_base.proofs.Firsts.{none_there}
 use Rattle.esis_tables.specs.declared.holding_time.Heard.{Heard}
 use Rattle.esis_tables.specs.declared.holding_time.Row.{Row}
 use Rattle.esis_tables.specs.Told.{Told, is_among}
-use Rattle.esis_tables.specs.Rows.{AreDistinct, IsTable, Rows, addresses, count_with, has_row, heard_of, heard_table, new_names, renewed, row_of, rows_with}
+use Rattle.esis_tables.specs.Rows.{AreDistinct, IsTable, Rows, addresses, has_row, heard_of, heard_table, new_names, renewed, row_of, rows_with}
+use Rattle.esis_tables.specs.Room.{count_with}
 use Rattle.esis_tables.specs.steps.Places.{ArePlaces, IsPlace, IsRenewed, is_noted, renewed_if, row_added, told_by}
-use Rattle.esis_tables.proofs.Lists.{list_any-map, position_none}
+use Rattle.esis_tables.proofs.Lists.{list_any-map}
 use Rattle.esis_tables.proofs.Names.{among_at, distinct_push, new_names-append, new_names-push, one_place}
 
 abbrev Name : Type 0
@@ -30,7 +32,7 @@ has_row-rows rows name = list_any-map (λ x. pointwise nat_eq x name) address_of
 
 -- where no place is found, there is no row
 pub no_place : (rows : List Row) (name : Name) → position (λ row. pointwise nat_eq row.address name) rows ≡ None → has_row rows name ≡ false
-no_place rows name is = has_row-rows rows name ∙ position_none (λ row. pointwise nat_eq row.address name) rows is
+no_place rows name is = has_row-rows rows name ∙ none_there (λ row. pointwise nat_eq row.address name) rows is
 
 -- the place that is found is that of the address
 pub some_place : (rows : List Row) (name : Name) (place : ℕ) (d : Row) → position (λ row. pointwise nat_eq row.address name) rows ≡ Some place

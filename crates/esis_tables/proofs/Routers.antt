@@ -12,12 +12,13 @@ use Rattle.std.proofs.lemmas.Cmp.{upto, tied_itself}
 use Rattle.std.proofs.lemmas.List.{take_more}
 use Rattle.std.proofs.lemmas.List.Elements.{All-contains, All-push, All-weaker, Contains-append_left, Contains-push}
 use Rattle.std.proofs.lemmas.List.Folds.{list_any_none}
+use Rattle.osi_base.proofs.Firsts.{find_none, find_some, none_pass}
+use Rattle.osi_base.proofs.Members.{contains_cases, one_member}
 use Rattle.nsap.specs.declared.port.Hop.{Hop}
 use Rattle.esis_tables.specs.declared.holding_time.Row.{Row}
 use Rattle.esis_tables.specs.Told.{is_among, is_upto}
 use Rattle.esis_tables.specs.Rows.{AreDistinct, IsTable, addresses, is_least, is_router, precedes, router_in}
 use Rattle.esis_tables.specs.steps.Least.{IsLeastOf, IsLeastRouter, IsRouterHop, is_before, is_lesser}
-use Rattle.esis_tables.proofs.Lists.{contains_cases, find_none, find_some, none_pass}
 
 compared : List ℕ → List ℕ → Ordering
 compared first second = slice_cmp nat_cmp first second
@@ -136,18 +137,9 @@ no_row (first ∷ rows) row address none there same =
 
 same_row : (rows : List Row) (first second : Row) → AreDistinct (addresses rows) → Contains rows first → Contains rows second → first.address ≡ second.address
     → first ≡ second
-same_row [] first second distinct one two same = absurd (omega (arith, one.1))
-same_row (row ∷ rows) first second distinct one two same =
-    elim (contains_cases row rows first one) [
-      | inl is ↦ elim (contains_cases row rows second two) [
-        | inl also ↦ sym is ∙ also
-        | inr later ↦ absurd (no_row rows second row.address distinct.0 later (sym same ∙ ap (λ (x : Row). x.address) (sym is)))
-      ]
-      | inr later ↦ elim (contains_cases row rows second two) [
-        | inl also ↦ absurd (no_row rows first row.address distinct.0 later (same ∙ ap (λ (x : Row). x.address) (sym also)))
-        | inr behind ↦ same_row rows first second distinct.1 later behind same
-      ]
-    ]
+same_row =
+    one_member (λ (row : Row). row.address) (λ (rows : List Row). AreDistinct (addresses rows)) (λ row rows distinct. distinct.1)
+    (λ row rows other distinct there same. no_row rows other row.address distinct.0 there same)
 
 module _ (now : ℕ) (rows : List Row) where
   abbrev After : Row → Row → Type 0

@@ -6,6 +6,8 @@ use Rattle.std.specs.List.{Contains, filter, list_any}
 use Rattle.std.specs.Cmp.Lexicographic.{pointwise, same_text, nat_list_eq_equiv}
 use Rattle.std.proofs.lemmas.Bool.{and_from, and_parts, le-ltb, ltb-false, or_left, or_right, or_parts}
 use Rattle.std.proofs.lemmas.List.Elements.{All-append, All-contains, All-filter, All-map, All-weaker}
+use Rattle.osi_base.proofs.Firsts.{find_none, find_some}
+use Rattle.osi_base.proofs.Members.{contains_cases}
 use Rattle.nsap.specs.declared.port.Port.{Port}
 use Rattle.nsap.specs.declared.port.Hop.{Hop}
 use Rattle.esis_pdu.specs.declared.hello.Hello.{Hello}
@@ -17,7 +19,7 @@ use Rattle.esis_tables.specs.Rows.{Rows, addresses, find_row, has_row, heard_of,
 use Rattle.esis_tables.specs.Rows.{is_title, new_names, renewed, row_at, row_of, rows_with, swept_table}
 use Rattle.esis_tables.specs.Stands.{IsRowOf, Stands, StandsStill, StandsWith}
 use Rattle.esis_tables.specs.steps.Least.{IsRouterHop}
-use Rattle.esis_tables.proofs.Lists.{contains_cases, find_none, find_some, list_any-map}
+use Rattle.esis_tables.proofs.Lists.{list_any-map}
 use Rattle.esis_tables.proofs.Routers.{one_title}
 use Rattle.esis_tables.proofs.Names.{is_among-append, named_somewhere, new_are_names}
 use Rattle.esis_tables.proofs.Placing.{addresses-renewed, addresses-with}

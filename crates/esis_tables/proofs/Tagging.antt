@@ -84,36 +84,29 @@ this_one tags tag start within = record {
 pub all_behind : (tags : List ℕ) (start : ℕ) → take (length tags - start) (drop start tags) ≡ drop start tags
 all_behind tags start = ap (λ (n : ℕ). take n (drop start tags)) (sym (length-drop start tags)) ∙ take-length (drop start tags)
 
+passes_behind : (tags behind : List ℕ) (tag start : ℕ) → behind ≡ drop start tags → (k : ℕ) → start ≤ k → get_or tags k 0 ≡ tag → (slice_index behind (k - start) == tag) ≡ true
+passes_behind tags behind tag start is k past same =
+    let at : start + (k - start) ≡ k = omega (arith, past) in
+    let here : get_or behind (k - start) 0 ≡ tag = ap (λ (xs : List ℕ). get_or xs (k - start) 0) is ∙ get_or-drop start tags (k - start) 0
+    ∙ ap (λ (n : ℕ). get_or tags n 0) at ∙ same in
+    grind (arith, here)
+
 -- a place among those behind the start
 pub next_found : (tags behind : List ℕ) (tag start place : ℕ) → start ≤ length tags → behind ≡ drop start tags
     → NoneBefore (Passes (is_byte tag) behind) 0 (length behind) place → IsNextTagged tags tag start (start + place)
 next_found tags behind tag start place within is h = record {
   low = omega arith;
   high = omega (arith, h.high, within, ap length is, length-drop start tags);
-  others = λ k past low same. h.before (k - start) (omega arith) (omega (arith, past, low)) (there k past same);
+  others = λ k past low same. h.before (k - start) (omega arith) (omega (arith, past, low)) (passes_behind tags behind tag start is k past same);
 }
-  where
-    there : (k : ℕ) → start ≤ k → get_or tags k 0 ≡ tag → (slice_index behind (k - start) == tag) ≡ true
-    there k past same =
-        let at : start + (k - start) ≡ k = omega (arith, past) in
-        let here : get_or behind (k - start) 0 ≡ tag = ap (λ (xs : List ℕ). get_or xs (k - start) 0) is ∙ get_or-drop start tags (k - start) 0
-        ∙ ap (λ (n : ℕ). get_or tags n 0) at ∙ same in
-        grind (arith, here)
 
 pub next_nowhere : (tags behind : List ℕ) (tag start : ℕ) → start ≤ length tags → behind ≡ drop start tags
     → Nowhere (Passes (is_byte tag) behind) 0 (length behind) → IsNextTagged tags tag start (length tags)
 next_nowhere tags behind tag start within is h = record {
   low = within;
   high = omega arith;
-  others = λ k past low same. h (k - start) (omega arith) (omega (arith, past, low, ap length is, length-drop start tags)) (there k past same);
+  others = λ k past low same. h (k - start) (omega arith) (omega (arith, past, low, ap length is, length-drop start tags)) (passes_behind tags behind tag start is k past same);
 }
-  where
-    there : (k : ℕ) → start ≤ k → get_or tags k 0 ≡ tag → (slice_index behind (k - start) == tag) ≡ true
-    there k past same =
-        let at : start + (k - start) ≡ k = omega (arith, past) in
-        let here : get_or behind (k - start) 0 ≡ tag = ap (λ (xs : List ℕ). get_or xs (k - start) 0) is ∙ get_or-drop start tags (k - start) 0
-        ∙ ap (λ (n : ℕ). get_or tags n 0) at ∙ same in
-        grind (arith, here)
 
 -- ---- the tags of the rows, once they changed
 

@@ -1,7 +1,8 @@
 -- What holds of every table and of the hellos that it heard (ISO 9542, record configuration function, flush old configuration function).
 use Rattle.std.specs.Prelude.{◌≡◌, ℕ, ◌<◌, ◌≤◌, List, [], ◌∷◌, ◌++◌}
 use Rattle.esis_tables.specs.Told.{IsRouter, Told, known_hop}
-use Rattle.esis_tables.specs.Rows.{IsTable, Rows, count_with, find_row, heard_table, router_in, swept_table}
+use Rattle.esis_tables.specs.Rows.{IsTable, Rows, find_row, heard_table, router_in, swept_table}
+use Rattle.esis_tables.specs.Room.{count_with}
 use Rattle.esis_tables.specs.Stands.{Stands}
 use Rattle.esis_tables.specs.Swept.{IsSwept, count_told}
 

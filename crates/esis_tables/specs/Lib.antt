@@ -1,4 +1,5 @@
 pub mod Laws
+pub mod Room
 pub mod Rows
 pub mod Stands
 pub mod Swept

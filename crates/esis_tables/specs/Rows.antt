@@ -69,10 +69,6 @@ new_names there (name ∷ names) = if is_among there name then new_names there n
 abbrev pub rows_with : List Row → Told → List Row
 rows_with rows told = rows ++ map (row_of told) (new_names (addresses rows) told.names)
 
--- how many rows that are
-abbrev pub count_with : List Row → Told → ℕ
-count_with rows told = length rows + length (new_names (addresses rows) told.names)
-
 -- the table once it heard a hello
 abbrev pub heard_table : Rows → Told → Rows
 heard_table table told = record { clock = told.tick; rows = map (renewed told) (rows_with table.rows told) }

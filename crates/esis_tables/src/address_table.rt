@@ -2,16 +2,18 @@
 //!
 //! Profile: a table has at most 256 rows.
 
-ghost use Rattle.std.specs.Prelude.{◌≡◌, ◌<◌, ◌≤◌, ◌↔◌, [], ◌∷◌, ◌++◌, false, Err, None, Some, IsTrue, OnOk, OnErr, IfOk, length, position, take, option_copied, nat_eq};
-ghost use Rattle.std.specs.List.{All, filter, remove};
-ghost use Rattle.std.specs.Cmp.Lexicographic.{pointwise};
+ghost use Rattle.std.specs.Prelude.{◌≡◌, ◌<◌, ◌≤◌, ◌↔◌, [], Err, None, IsTrue, OnOk, OnErr, IfOk, length};
+ghost use Rattle.std.specs.List.{All, filter};
 ghost use Rattle.esis_tables.specs.declared.address_table.HearRefusal.TheVariants.{Full};
-ghost use Rattle.esis_tables.specs.Rows.{IsTable, count_with, find_row, has_row, heard_table, is_row_known, no_rows, router_in, row_at, rows_with, swept_table};
-ghost use Rattle.esis_tables.specs.steps.Places.{ArePlaces, IsPlace, IsRenewed, row_added, told_by};
+ghost use Rattle.esis_tables.specs.Rows.{IsTable, find_row, heard_table, is_row_known, no_rows, router_in, swept_table};
+ghost use Rattle.esis_tables.specs.Room.{count_with};
+ghost use Rattle.esis_tables.specs.steps.Places.{told_by};
 ghost use Rattle.esis_tables.specs.steps.Deadlines.{AreDeadlines, IsKept, IsListed, IsMade, deadline_at};
-ghost use Rattle.esis_tables.specs.steps.Least.{IsLeastRouter, IsRouterHop, is_lesser};
+ghost use Rattle.esis_tables.specs.steps.Least.{IsRouterHop};
 
 use crate::holding_time::{Heard, Row};
+use crate::least_router::hop_to_router;
+use crate::room::{MOST_ROWS, places_of};
 use crate::rows::TaggedRows;
 use due_links::DueList;
 use nsap::{Hop, Nsap};
@@ -19,9 +21,6 @@ use osi_base::{NoMemory, Tick};
 use std::alloc::Global;
 use std::collections::VecDeque;
 use std::marker::Model;
-
-/// The most rows of a table.
-const MOST_ROWS: usize = 256;
 
 /// Why a hello was not heard.
 #[derive(Clone, Copy, Debug, PartialEq, Eq)]
@@ -143,57 +142,6 @@ impl AddressTable {
     }
 }
 
-// The place of the row of an address, which is put behind the others where there is none.
-fn place_of(rows: &mut TaggedRows, name: &Nsap, heard: &Heard) -> Result<usize, HearRefusal>
-    requires { IsTable rows.old }
-    ensures table { IsTable rows.new }
-    ensures ok { OnOk result (rows.new ≡ row_added rows.old name.now heard.now) }
-    ensures place { IfOk result (IsPlace rows.new name.now) }
-    ensures full { result ≡ Err Full → (256 ≤ length rows.old) × (has_row rows.old name.now ≡ false) }
-    ensures err { OnErr result (rows.new ≡ rows.old) }
-{
-    if let Some(place) = rows.place_in(name) {
-        return Ok(place);
-    }
-    if rows.ring().len() >= MOST_ROWS {
-        return Err(HearRefusal::Full);
-    }
-    rows.put(*name, heard)?;
-    Ok(rows.ring().len() - 1)
-}
-
-// Puts a row for each name that has none, and gives the places of the rows that are named.
-fn places_of(
-    alloc: Global,
-    rows: &mut TaggedRows,
-    names: &[Nsap],
-    heard: &Heard,
-) -> Result<Vec<usize>, HearRefusal>
-    requires { IsTable rows.old }
-    ensures table { IsTable rows.new }
-    ensures ok { OnOk result (rows.new ≡ rows_with rows.old (told_by names.now heard.now)) }
-    ensures places { IfOk result (λ places. ArePlaces names.now rows.new places.items) }
-    ensures full { result ≡ Err Full → 256 < count_with rows.old (told_by names.now heard.now) }
-    ensures kept { take (length rows.old) rows.new ≡ rows.old }
-{
-    let mut places = Vec::new(alloc);
-    for name in names {
-        match place_of(rows, name, heard) {
-            Ok(place) => note(&mut places, place)?,
-            Err(refusal) => return Err(refusal),
-        }
-    }
-    Ok(places)
-}
-
-// Notes a place behind the others.
-fn note(places: &mut Vec<usize>, place: usize) -> Result<(), NoMemory>
-    ensures { OnOk result (places.new.items ≡ places.old.items ++ place ∷ []) }
-{
-    places.push(place)?;
-    Ok(())
-}
-
 // What is due is the deadline of each row, made where it was not.
 fn made(due: Option<DueList>, alloc: Global) -> Result<DueList, NoMemory>
     ensures ok { IfOk result (λ new. IsMade due new) }
@@ -248,37 +196,4 @@ fn sweep_due(due: &mut DueList, rows: &mut TaggedRows, now: Tick)
     while let Some(place) = due.pop(now) {
         rows.remove(place);
     }
-}
-
-// The hop to the known intermediate system of least title.
-fn hop_to_router(rows: &VecDeque<Row>, now: Tick) -> Option<Hop>
-    ensures { IsRouterHop rows.now.items now result }
-{
-    let row = least_router(rows, now)?;
-    Some(row.heard.hop)
-}
-
-// The row of the known intermediate system of least title.
-fn least_router(rows: &VecDeque<Row>, now: Tick) -> Option<Row>
-    ensures { IsLeastRouter rows.now.items now result }
-{
-    let mut least = None;
-    for place in 0..rows.len() {
-        let row = &rows[place];
-        if is_lesser(row, &least, now) {
-            least = Some(*row);
-        }
-    }
-    least
-}
-
-// Whether the row is that of a known intermediate system, and its title comes before the least one so far.
-fn is_lesser(row: &Row, least: &Option<Row>, now: Tick) -> bool
-    ensures { result ≡ is_lesser row.now least.now now }
-{
-    let before = match least {
-        Some(least) => row.address.octets().cmp(least.address.octets()).is_lt(),
-        None => true,
-    };
-    before && row.is_router(now)
 }

@@ -5,8 +5,10 @@
 mod address_table;
 mod holding_time;
 mod laws;
+mod least_router;
 mod neighbours;
 mod redirects;
+mod room;
 mod rows;
 
 pub use address_table::HearRefusal;

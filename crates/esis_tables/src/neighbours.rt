@@ -4,7 +4,8 @@ ghost use Rattle.std.specs.Prelude.{◌≡◌, ◌<◌, ◌≤◌, Err, IfOk, Li
 ghost use Rattle.esis_pdu.specs.Lent.{listed, value_of};
 ghost use Rattle.esis_tables.specs.declared.address_table.HearRefusal.TheVariants.{Full};
 ghost use Rattle.esis_tables.specs.Told.{IsConfiguration, IsRouter, Told, known_hop, told_of};
-ghost use Rattle.esis_tables.specs.Rows.{count_with, find_row, heard_table, no_rows, router_in, swept_table};
+ghost use Rattle.esis_tables.specs.Rows.{find_row, heard_table, no_rows, router_in, swept_table};
+ghost use Rattle.esis_tables.specs.Room.{count_with};
 ghost use Rattle.esis_tables.specs.Stands.{Stands, StandsStill, StandsWith};
 
 use crate::HearRefusal;

@@ -15,7 +15,8 @@ use Rattle.osi_base.specs.Link.{Link}
 use Rattle.osi_base.specs.Calls.{Call, Offer, Tick}
 use Rattle.inactive_step.specs.declared.row.InactiveRow.{InactiveRow}
 use Rattle.inactive_step.specs.declared.row.Way.{Way}
-use Rattle.inactive_step.specs.Frames.{frame_on, read_ups, way_from}
+use Rattle.inactive_step.specs.Frames.{frame_on, read_ups}
+use Rattle.inactive_step.specs.Way.{way_from}
 use Rattle.inactive_step.specs.Network.{Inactive}
 use Rattle.inactive_step.specs.Rows.{longest}
 use Rattle.inactive_step.specs.Step.{InactiveArrives, InactiveOffers, InactiveTicks, Long, Sent, counted, floated, plain_wish, strays_in}

@@ -6,6 +6,7 @@ mod afloat;
 mod frames;
 mod net;
 mod rows;
+mod way;
 
 pub use inactive_step::InactiveRow;
 pub use net::InactiveNet;

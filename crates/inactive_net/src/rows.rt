@@ -1,10 +1,9 @@
 //! The end systems of a network, by address and by port (X.233, Inactive Network Layer Protocol subset, subnetwork addresses).
 
-ghost use Rattle.std.specs.Prelude.{◌≡◌, IfSome, option_copied, max};
-ghost use Rattle.inactive_step.specs.Frames.{are_two_on_one_lan, way_between, way_from};
+ghost use Rattle.std.specs.Prelude.{◌≡◌, option_copied};
 ghost use Rattle.inactive_step.specs.Rows.{bound_in, longest, room_in, row_at, row_on};
 
-use inactive_step::{InactiveRow, Way};
+use inactive_step::InactiveRow;
 use nsap::{Nsap, Port};
 use std::marker::Model;
 
@@ -38,16 +37,6 @@ impl Rows {
     {
         let greatest = longest_of(&list);
         Rows { list, greatest }
-    }
-
-    /// The way from one address to another; None exactly where they are not those of two end systems on one LAN.
-    pub fn way(&self, from: &Nsap, to: &Nsap) -> Option<Way>
-        ensures { result ≡ way_from self.now from.now to.now }
-    {
-        let source = *self.with_address(from)?;
-        let goal = *self.with_address(to)?;
-        let apart = source.port.lan == goal.port.lan && source.address != goal.address;
-        apart.then_some(Way { source, goal })
     }
 
     /// The end system that has an address.

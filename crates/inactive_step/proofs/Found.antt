@@ -1,40 +1,24 @@
 -- The row that is found for an address has it; by its port the same row is found, since no other has that port.
 use Rattle.std.proofs.Common.{◌≡◌, ℕ, ◌≤◌, ◌==◌, Bool, true, false, cond, List, [], ◌∷◌, Some, refl, sym, ◌∙◌, ap, subst, arith}
 use Rattle.std.specs.Prelude.{◌&&◌, find, max, nat_eq}
-use Rattle.std.specs.Cmp.Lexicographic.{pointwise}
+use Rattle.std.specs.Cmp.Lexicographic.{pointwise, same_text}
 use Rattle.std.specs.List.{AllByRecursion}
-use Rattle.std.proofs.lemmas.Bool.Decides.{nat_tests}
+use Rattle.std.proofs.lemmas.Bool.{and_from, eq-eqb}
+use Rattle.std.proofs.lemmas.Cmp.{nat_list_eq_equiv}
 use Rattle.nsap.specs.declared.port.Port.{Port}
 use Rattle.inactive_step.specs.declared.row.InactiveRow.{InactiveRow}
 use Rattle.inactive_step.specs.Rows.{AreAllApart, AreApart, bound_in, longest, row_at, row_on, same_port}
 
 -- ---- equal lists
 
-and_parts : (a b : Bool) → (a && b) ≡ true → (a ≡ true) × (b ≡ true)
-and_parts true b h = (refl, h)
-and_parts false b h = absurd cc
-
 pub same_numbers : (xs ys : List ℕ) → pointwise nat_eq xs ys ≡ true → xs ≡ ys
-same_numbers [] [] h = refl
-same_numbers [] (y ∷ ys) h = absurd cc
-same_numbers (x ∷ xs) [] h = absurd cc
-same_numbers (x ∷ xs) (y ∷ ys) h =
-    let parts : (nat_eq x y ≡ true) × (pointwise nat_eq xs ys ≡ true) = and_parts (nat_eq x y) (pointwise nat_eq xs ys) h in
-    let first : x ≡ y = one x y parts.0 in
-    ap (λ (n : ℕ). n ∷ xs) first ∙ ap (λ (ns : List ℕ). y ∷ ns) (same_numbers xs ys parts.1)
-  where
-    one : (x y : ℕ) → nat_eq x y ≡ true → x ≡ y
-    one x y h = grind (arith, h)
+same_numbers xs ys h = same_text xs ys (sym h)
 
 pub equal_numbers : (xs : List ℕ) → pointwise nat_eq xs xs ≡ true
-equal_numbers [] = refl
-equal_numbers (x ∷ xs) = grind (arith, equal_numbers xs)
+equal_numbers xs = nat_list_eq_equiv.refl xs
 
 own_port : (port : Port) → same_port port port ≡ true
-own_port port = both (port.lan == port.lan) (pointwise nat_eq port.snpa port.snpa) (grind (arith, nat_tests)) (equal_numbers port.snpa)
-  where
-    both : (a b : Bool) → a ≡ true → b ≡ true → (a && b) ≡ true
-    both a b h k = cc
+own_port port = and_from _ _ (eq-eqb port.lan port.lan refl) (equal_numbers port.snpa)
 
 -- ---- what is found
 

@@ -19,11 +19,13 @@ use Rattle.osi_base.specs.Link.{Link, IsGiven, IsLawful, IsNote}
 use Rattle.osi_base.specs.Calls.{Call, Offer, Choose, Inject, NextUp, Tick, Keeps, Adds, Offers, Chooses, Injects, TakesUp, Ticks, IsSameLink, NothingNew}
 use Rattle.osi_base.specs.Gathering.{Stands}
 use Rattle.osi_base.proofs.Chains.{picks_on}
-use Rattle.osi_base.proofs.Standings.{choice_took, stands_offer, stands_on, stands_same, takes_on, tick_took, took_after, took_same}
+use Rattle.osi_base.proofs.Raisings.{IsRaised, raised_choice, raised_injection, strays_none, strays_some, takes_up}
+use Rattle.osi_base.proofs.Standings.{choice_took, stands_offer, stands_on, stands_same, takes_on, tick_took, took_after}
 use Rattle.osi_base.proofs.Young.{all_last}
 use Rattle.inactive_step.specs.declared.row.InactiveRow.{InactiveRow}
 use Rattle.inactive_step.specs.declared.row.Way.{Way}
-use Rattle.inactive_step.specs.Frames.{frame_on, read_ups, way_from}
+use Rattle.inactive_step.specs.Frames.{frame_on, read_ups}
+use Rattle.inactive_step.specs.Way.{way_from}
 use Rattle.inactive_step.specs.Network.{Inactive, inactive_link, new_inactive}
 use Rattle.inactive_step.specs.Rows.{AreServed, IsPromised, bound_in, longest, row_at}
 use Rattle.inactive_step.specs.Sound.{IsFrameOf, IsSound}
@@ -70,60 +72,6 @@ floated_past : (entries : List (ℕ × CarriedUnit (List ℕ))) (now : ℕ) (uni
     → AllByRecursion (λ entry. entry.0 ≤ now) (floated entries now unit answer)
 floated_past entries now unit WasTaken h = all_last (λ (entry : ℕ × CarriedUnit (List ℕ)). entry.0 ≤ now) entries (now, unit) h (omega arith)
 floated_past entries now unit (Dropped cause) h = h
-
-strays_none : (after was : Bool) (strays more : ℕ) → after ≡ true → was ≡ true → (if after then 0 else more) ≡ min ((if was then 0 else strays) + 0) 4294967295
-strays_none true true strays more h k = refl
-strays_none true false strays more h k = absurd cc
-strays_none false was strays more h k = absurd cc
-
-strays_some : (after was : Bool) (strays more : ℕ) → after ≡ false → (was ≡ true → strays ≡ 0) → (if after then 0 else counted after strays more) ≡ min ((if was then 0 else strays) + more) 4294967295
-strays_some true was strays more h k = absurd cc
-strays_some false true strays more h k = ap (λ (n : ℕ). min (n + more) 4294967295) (k refl)
-strays_some false false strays more h k = refl
-
-strays_kept : (after : Bool) (strays more : ℕ) → after ≡ true → strays ≡ 0 → counted after strays more ≡ 0
-strays_kept true strays more h k = k
-strays_kept false strays more h k = absurd cc
-
--- what a choice and an injection have alike
-record IsRaised (old called : Link Port) : Type 0 where
-  same : IsSameLink old called
-  clock : called.clock ≡ old.clock
-  grows : NothingNew old called
-  was_honest : called.honest ≡ true → old.honest ≡ true
-  ups : List (Up Port)
-  waiting : called.waiting ≡ old.waiting ++ ups
-  lawful : called.honest ≡ true → AllByRecursion (IsLawful old) ups
-
-raised_choice : (old : Link Port) (pick system : ℕ) (answer : Picked) (called : Link Port) → Chooses old pick system answer called → IsRaised old called
-raised_choice old pick system answer called c = record {
-  same = c.same;
-  clock = c.clock;
-  grows = c.grows;
-  was_honest = λ h. sym c.honest ∙ h;
-  ups = c.ups;
-  waiting = c.adds.waiting;
-  lawful = λ h. recursion_from_All (IsLawful old) c.ups (c.lawful (sym c.honest ∙ h));
-}
-
-notes_lawful : {A : Type 0} (seen : Link A) (ups : List (Up A)) → AllByRecursion IsNote ups → AllByRecursion (IsLawful seen) ups
-notes_lawful seen [] h = tt
-notes_lawful seen (Noted note ∷ ups) h = (tt, notes_lawful seen ups h.1)
-notes_lawful seen (Came arrival ∷ ups) h = absurd h.0
-
-not_taken : (old : Link Port) (answer : Injected) (called : Link Port) → Injects old answer called → called.honest ≡ true → answer ≢ WasInjected
-not_taken old answer called c h is = let e : called.honest ≡ false = c.injected is in cc
-
-raised_injection : (old : Link Port) (answer : Injected) (called : Link Port) → Injects old answer called → IsRaised old called
-raised_injection old answer called c = record {
-  same = c.same;
-  clock = c.clock;
-  grows = c.grows;
-  was_honest = λ h. sym (c.honest (not_taken old answer called c h)) ∙ h;
-  ups = c.ups;
-  waiting = c.adds.waiting;
-  lawful = λ h. notes_lawful old c.ups (recursion_from_All IsNote c.ups (c.refused (not_taken old answer called c h)));
-}
 
 module _ {C : Type 0} (link : C → Link Port) (steps : C → Call Port → C → Type 0)
     (law : (old : C) (call : Call Port) (new : C) → steps old call new → Keeps (link old) call (link new)) where
@@ -279,7 +227,8 @@ module _ {C : Type 0} (link : C → Link Port) (steps : C → Call Port → C �
         by false h = record {
           strays_among = strays_in old.rows (link old.link).clock old.floating told;
           are_strays = strays_are link old told;
-          strays = strays_some (link a.below).honest (link old.link).honest old.strays (strays_in old.rows (link old.link).clock old.floating told) h sound.none;
+          strays = strays_some (link a.below).honest (link old.link).honest old.strays (strays_in old.rows (link old.link).clock old.floating told) _ h sound.none
+              (ap (λ (b : Bool). counted b old.strays (strays_in old.rows (link old.link).clock old.floating told)) h);
           waiting = refl;
         }
 
@@ -288,7 +237,7 @@ module _ {C : Type 0} (link : C → Link Port) (steps : C → Call Port → C �
       quiet = a.brings.gathers.quiet;
       served = served_on (link old.link) (link a.below) old.rows same_below sound.served;
       past = subst (λ (n : ℕ). AllByRecursion (λ (entry : ℕ × CarriedUnit (List ℕ)). entry.0 ≤ n) old.floating) (sym same_clock) sound.past;
-      none = λ h. strays_kept (link a.below).honest old.strays (strays_in old.rows (link old.link).clock old.floating told) h (sound.none (was_honest h));
+      none = λ h. ap (λ (b : Bool). counted b old.strays (strays_in old.rows (link old.link).clock old.floating told)) h ∙ sound.none (was_honest h);
       traced = λ h entry there live.
           sound.traced (was_honest h) entry (raised.grows entry (a.brings.gathers.grows entry there)) (live_before (link old.link) (link a.below) entry same_below (omega (arith, same_clock)) live);
     })
@@ -424,19 +373,7 @@ module _ {C : Type 0} (link : C → Link Port) (steps : C → Call Port → C �
 
   takes_keeps : (old : Inactive C) (answer : Option (Up (List ℕ))) (new : Inactive C) → InactiveTakesUp link steps old answer new → TakesUp (inactive_link link old) answer (inactive_link link new)
   takes_keeps old answer new t =
-      subst (λ (n : Inactive C). TakesUp (inactive_link link old) answer (inactive_link link n)) (sym t.becomes) (record {
-        same = record { bound = λ to. refl; room = λ to. refl; belongs = λ to system. refl };
-        clock = refl;
-        honest = refl;
-        strays = refl;
-        grows = λ entry h. h;
-        lost = λ entry h live. h;
-        waiting = t.waiting;
-        none = t.none;
-        takes = λ pick system is. is;
-        picks = record { given = omega arith; again = λ pick system is. inl is };
-        took = λ pick system is. took_same ((link old.link).takes pick system) ((link old.link).took pick system) is;
-      })
+      subst (λ (n : Inactive C). TakesUp (inactive_link link old) answer (inactive_link link n)) (sym t.becomes) (takes_up (inactive_link link old) new.waiting answer t.waiting t.none)
 
   takes_soundly : (old : Inactive C) (answer : Option (Up (List ℕ))) (new : Inactive C) → IsSound link old → InactiveTakesUp link steps old answer new → IsSound link new
   takes_soundly old answer new sound t = subst (IsSound link) (sym t.becomes) (record {

@@ -3,6 +3,7 @@ use Rattle.std.proofs.Common.{◌≡◌, inl, inr, ℕ, zero, suc, ◌+◌, ◌�
 use Rattle.std.specs.Prelude.{IsTrue}
 use Rattle.std.specs.List.{AllByRecursion, Contains, list_any}
 use Rattle.std.specs.Cmp.Lexicographic.{pointwise}
+use Rattle.std.proofs.lemmas.Bool.{and_from, and_parts}
 use Rattle.std.proofs.lemmas.List.Elements.{Contains-append_right}
 use Rattle.nsap.specs.declared.port.Port.{Port}
 use Rattle.osi_base.specs.declared.unit.Unit.{Unit as CarriedUnit}
@@ -10,14 +11,16 @@ use Rattle.osi_base.specs.declared.unit.Up.{Up}
 use Rattle.osi_base.specs.declared.unit.Up.TheVariants.{Unit as Came, Note as Noted}
 use Rattle.osi_base.specs.Floated.{is_unit_of}
 use Rattle.osi_base.specs.Link.{Link, AreStrays, IsAfloat, IsLawful, IsNote}
+use Rattle.osi_base.proofs.Entries.{is_unit, own_unit}
 use Rattle.inactive_step.specs.declared.row.InactiveRow.{InactiveRow}
 use Rattle.inactive_step.specs.declared.row.Way.{Way}
-use Rattle.inactive_step.specs.Frames.{are_two_on_one_lan, frame_on, read_up, read_ups, unit_between, way_between, way_from}
+use Rattle.inactive_step.specs.Frames.{frame_on, read_up, read_ups, unit_between}
+use Rattle.inactive_step.specs.Way.{are_two_on_one_lan, way_between, way_from}
 use Rattle.inactive_step.specs.Network.{Inactive, inactive_link}
 use Rattle.inactive_step.specs.Rows.{AreAllApart, AreServed, IsPromised, bound_in, is_system_in, row_at, row_on}
 use Rattle.inactive_step.specs.Sound.{AreTraced}
 use Rattle.inactive_step.specs.Step.{is_afloat, is_live_of, strays_in}
-use Rattle.inactive_step.proofs.Found.{equal_numbers, found_address, found_of, found_port, same_numbers}
+use Rattle.inactive_step.proofs.Found.{found_address, found_of, found_port}
 
 pub lawful_no_strays : {A : Type 0} (seen : Link A) (ups : List (Up A)) → AllByRecursion (IsLawful seen) ups → AreStrays seen ups 0
 lawful_no_strays seen [] h = refl
@@ -63,34 +66,6 @@ read_back rows unit way system apart is =
     let to : way.goal.address ≡ unit.to = found_address rows unit.to way.goal ends.goal in
     first ∙ second ∙ (λ i. Came (record { system = system; unit = record { from = from i; to = to i; octets = unit.octets } }))
 
--- ---- equal units
-
-and_parts : (a b : Bool) → (a && b) ≡ true → (a ≡ true) × (b ≡ true)
-and_parts true b h = (refl, h)
-and_parts false b h = absurd cc
-
-three_parts : (a b c : Bool) → (a && b && c) ≡ true → (a ≡ true) × (b ≡ true) × (c ≡ true)
-three_parts true true c h = (refl, refl, h)
-three_parts true false c h = absurd cc
-three_parts false b c h = absurd cc
-
-is_unit : (unit : CarriedUnit (List ℕ)) (entry : ℕ × CarriedUnit (List ℕ)) → is_unit_of (pointwise nat_eq) unit entry ≡ true → entry.1 ≡ unit
-is_unit unit entry h =
-    let p = three_parts (pointwise nat_eq entry.1.from unit.from) (pointwise nat_eq entry.1.to unit.to) (pointwise nat_eq entry.1.octets unit.octets) h in
-    let from : entry.1.from ≡ unit.from = same_numbers entry.1.from unit.from p.0 in
-    let to : entry.1.to ≡ unit.to = same_numbers entry.1.to unit.to p.1 in
-    let octets : entry.1.octets ≡ unit.octets = same_numbers entry.1.octets unit.octets p.2 in
-    λ i. record { from = from i; to = to i; octets = octets i }
-
-own_unit : (unit : CarriedUnit (List ℕ)) (tick : ℕ) → is_unit_of (pointwise nat_eq) unit (tick, unit) ≡ true
-own_unit unit tick = all _ _ _ (equal_numbers unit.from) (equal_numbers unit.to) (equal_numbers unit.octets)
-  where
-    all : (a b c : Bool) → a ≡ true → b ≡ true → c ≡ true → (a && b && c) ≡ true
-    all a b c h k l = cc
-
-both_true : (a b : Bool) → a ≡ true → b ≡ true → (a && b) ≡ true
-both_true a b h k = cc
-
 -- ---- strays
 
 found_at : {A : Type 0} (test : A → Bool) (xs : List A) → list_any test xs ≡ true → (x : A) × Contains xs x × (test x ≡ true)
@@ -133,7 +108,7 @@ module _ {C : Type 0} (link : C → Link Port) (net : Inactive C) where
   not_found unit h a =
       let there : is_afloat net.rows now net.floating unit ≡ true =
       there_any (is_live_of now (bound_in (row_at net.rows unit.to)) unit) net.floating (a.tick, unit) a.taken
-      (both_true (is_unit_of (pointwise nat_eq) unit (a.tick, unit)) (nat_le now (a.tick + bound_in (row_at net.rows unit.to))) (own_unit unit a.tick) (le-leb now (a.tick + bound_in (row_at net.rows unit.to)) a.live)) in
+      (and_from (is_unit_of (pointwise nat_eq) unit (a.tick, unit)) (nat_le now (a.tick + bound_in (row_at net.rows unit.to))) (own_unit unit a.tick) (le-leb now (a.tick + bound_in (row_at net.rows unit.to)) a.live)) in
       absurd cc
 
   pub strays_are : (ups : List (Up (List ℕ))) → AreStrays (inactive_link link net) ups (strays_in net.rows now net.floating ups)

@@ -7,7 +7,8 @@ use Rattle.osi_base.specs.Link.{Link}
 use Rattle.osi_base.specs.Calls.{Call, Keeps}
 use Rattle.inactive_step.specs.declared.row.InactiveRow.{InactiveRow}
 use Rattle.inactive_step.specs.declared.row.Way.{Way}
-use Rattle.inactive_step.specs.Frames.{frame_on, read_up, way_from}
+use Rattle.inactive_step.specs.Frames.{frame_on, read_up}
+use Rattle.inactive_step.specs.Way.{way_from}
 use Rattle.inactive_step.specs.Network.{Inactive, inactive_link, new_inactive}
 use Rattle.inactive_step.specs.Rows.{AreAllApart, AreServed}
 use Rattle.inactive_step.specs.Sound.{IsSound}

@@ -4,3 +4,4 @@ pub mod Network
 pub mod Rows
 pub mod Sound
 pub mod Step
+pub mod Way

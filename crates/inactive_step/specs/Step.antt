@@ -17,7 +17,8 @@ use Rattle.osi_base.specs.Calls.{Call, Offer, Choose, Inject, NextUp, Tick, afte
 use Rattle.osi_base.specs.Gathering.{Gathers}
 use Rattle.inactive_step.specs.declared.row.InactiveRow.{InactiveRow}
 use Rattle.inactive_step.specs.declared.row.Way.{Way}
-use Rattle.inactive_step.specs.Frames.{frame_on, read_ups, way_from}
+use Rattle.inactive_step.specs.Frames.{frame_on, read_ups}
+use Rattle.inactive_step.specs.Way.{way_from}
 use Rattle.inactive_step.specs.Network.{Inactive}
 use Rattle.inactive_step.specs.Rows.{bound_in, longest, row_at}
 use Rattle.inactive_step.specs.Sound.{IsSound}

@@ -8,7 +8,8 @@ use Rattle.nsap.specs.declared.port.Port.{Port}
 use Rattle.lan_bag.specs.declared.setup.Lan.{Lan}
 use Rattle.lan_bag.specs.declared.setup.PortRow.{PortRow}
 use Rattle.lan_bag.specs.Rows.{bound_on, room_in, room_on, IsLan}
-use Rattle.lan_bag.specs.Frames.{Frame, offered}
+use Rattle.lan_bag.specs.Frames.{Frame}
+use Rattle.lan_bag.specs.Offers.{offered}
 
 rooms_fit : (lans : List Lan) (lan : ℕ) → All IsLan lans → room_in (slice_get lans lan) ≤ 1497
 rooms_fit [] lan h = omega arith

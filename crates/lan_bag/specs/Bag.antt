@@ -16,8 +16,10 @@ use Rattle.osi_base.specs.Calls.{Call, Offer, Choose, Inject, NextUp, Tick, afte
 use Rattle.nsap.specs.declared.port.Port.{Port}
 use Rattle.lan_bag.specs.declared.setup.Lan.{Lan}
 use Rattle.lan_bag.specs.declared.setup.PortRow.{PortRow}
-use Rattle.lan_bag.specs.Rows.{bound_on, room_on, is_on, sender_of, goes_to}
-use Rattle.lan_bag.specs.Frames.{Frame, frame_of, has_taken, marked_at, is_taken, picked, offered, kept_at, strays_of}
+use Rattle.lan_bag.specs.Rows.{bound_on, room_on, is_on, sender_of}
+use Rattle.lan_bag.specs.Receivers.{goes_to}
+use Rattle.lan_bag.specs.Frames.{Frame, frame_of, has_taken, marked_at, is_taken, picked, kept_at, strays_of}
+use Rattle.lan_bag.specs.Offers.{offered}
 use Rattle.lan_bag.specs.Reading.{ups_of}
 
 -- the LANs: the frame of number n stands at place n - 1, and nothing once it is late

@@ -1,20 +1,18 @@
 -- Frames, and which answer an offer and a choice get (IEEE 802.3, MAC frame structure).
-use Rattle.std.specs.Prelude.{ℕ, zero, suc, ◌+◌, Bool, true, false, not, ◌&&◌, ◌||◌, ◌==◌, nat_lt, nat_le, nat_eq, is_some, if◌then◌else◌, List, [], ◌∷◌, ◌++◌, length, count_by, Option, Some, None, slice_get, slice_set}
+use Rattle.std.specs.Prelude.{ℕ, zero, suc, ◌+◌, Bool, true, false, not, ◌&&◌, ◌||◌, ◌==◌, nat_le, nat_eq, is_some, if◌then◌else◌, List, [], ◌∷◌, ◌++◌, Option, Some, None, slice_get, slice_set}
 use Rattle.std.specs.Cmp.Lexicographic.{pointwise}
 use Rattle.std.specs.List.{list_any}
 use Rattle.osi_base.specs.declared.unit.Unit.{Unit as CarriedUnit}
 use Rattle.osi_base.specs.declared.unit.Up.{Up}
 use Rattle.osi_base.specs.declared.unit.Up.TheVariants.{Unit as Came, Note as Noted}
-use Rattle.osi_base.specs.declared.unit.Offered.{Offered}
-use Rattle.osi_base.specs.declared.unit.Offered.TheVariants.{Taken as WasTaken, Dropped}
-use Rattle.osi_base.specs.declared.unit.DropCause.TheVariants.{TooLong, NoRoute, Full}
 use Rattle.osi_base.specs.declared.unit.Picked.{Picked}
 use Rattle.osi_base.specs.declared.unit.Picked.TheVariants.{Taken as WasPicked, NoSuch, Late, NotThere, NotOurs}
 use Rattle.nsap.specs.declared.port.Port.{Port}
 use Rattle.lan_frame.specs.Frame.{whole_frame}
 use Rattle.lan_bag.specs.declared.setup.Lan.{Lan}
 use Rattle.lan_bag.specs.declared.setup.PortRow.{PortRow}
-use Rattle.lan_bag.specs.Rows.{bound_on, room_on, same_port, is_on, has_sent, sender_of, goes_to}
+use Rattle.lan_bag.specs.Rows.{bound_on, same_port, is_on, has_sent}
+use Rattle.lan_bag.specs.Receivers.{goes_to}
 
 -- a frame: when it was sent, what it carries, and the systems that took it
 pub record Frame : Type 0 where
@@ -87,18 +85,6 @@ picked_late clock lans rows system (Some frame) = if not (is_live clock lans fra
 abbrev pub picked : ℕ → List Lan → List PortRow → List (Option Frame) → ℕ → ℕ → Picked
 picked clock lans rows frames pick system =
     if not (is_given frames pick) then NoSuch else picked_late clock lans rows system (frame_of frames pick)
-
--- how many frames there are that are not late
-abbrev pub live_count : List (Option Frame) → ℕ
-live_count frames = count_by is_some frames
-
--- the answer to an offer: the first that applies
-abbrev pub offered : List Lan → List PortRow → List (Option Frame) → CarriedUnit Port → Offered
-offered lans rows frames unit =
-    if not (is_some (sender_of rows unit.from)) || not (unit.from.lan == unit.to.lan) then Dropped NoRoute
-    else if nat_lt (room_on lans unit.to.lan) (length unit.octets) then Dropped TooLong
-    else if nat_le 16384 (live_count frames) || nat_le 4294967295 (length frames) then Dropped Full
-    else WasTaken
 
 -- the frame, and nothing where it is late
 abbrev pub kept_at : ℕ → List Lan → Option Frame → Option Frame

@@ -1,5 +1,7 @@
 pub mod Bag
 pub mod Frames
+pub mod Offers
 pub mod Reading
+pub mod Receivers
 pub mod Rows
 pub mod steps

@@ -1,5 +1,5 @@
 -- Which system has which port, and which systems a frame goes to (IEEE 802.3; ISO 9542, multicast addresses).
-use Rattle.std.specs.Prelude.{◌≡◌, ℕ, ◌<◌, ◌≤◌, Bool, false, ◌&&◌, ◌||◌, ◌==◌, nat_eq, if◌then◌else◌, List, [], ◌∷◌, length, Option, Some, None, slice_get}
+use Rattle.std.specs.Prelude.{◌≡◌, ℕ, ◌<◌, ◌≤◌, Bool, false, ◌&&◌, ◌==◌, nat_eq, if◌then◌else◌, List, [], ◌∷◌, length, Option, Some, None, slice_get}
 use Rattle.std.specs.Cmp.Lexicographic.{pointwise}
 use Rattle.std.specs.List.{list_any, All}
 use Rattle.nsap.specs.declared.port.Port.{Port}
@@ -27,14 +27,6 @@ same_snpa first second = pointwise nat_eq first second
 abbrev pub same_port : Port → Port → Bool
 same_port first second = first.lan == second.lan && same_snpa first.snpa second.snpa
 
--- the group of all end systems, and that of all intermediate systems
-abbrev pub group_of_kind : Bool → List ℕ
-group_of_kind end = if end then 9 ∷ 0 ∷ 43 ∷ 0 ∷ 0 ∷ 4 ∷ [] else 9 ∷ 0 ∷ 43 ∷ 0 ∷ 0 ∷ 5 ∷ []
-
--- the SNPA is that of the row, or that of the group of its kind of system
-abbrev pub is_named_by : PortRow → List ℕ → Bool
-is_named_by row snpa = same_snpa row.port.snpa snpa || same_snpa (group_of_kind row.end) snpa
-
 -- the system has a port on that LAN
 abbrev pub is_on : List PortRow → ℕ → ℕ → Bool
 is_on rows system lan = list_any (λ row. row.system == system && row.port.lan == lan) rows
@@ -47,14 +39,6 @@ has_sent rows system from = list_any (λ row. row.system == system && same_port 
 abbrev pub sender_of : List PortRow → Port → Option ℕ
 sender_of [] port = None
 sender_of (row ∷ rows) port = if same_port row.port port then Some row.system else sender_of rows port
-
--- the port of the row is one of that destination
-abbrev pub is_one_of : Port → PortRow → Bool
-is_one_of to row = row.port.lan == to.lan && is_named_by row to.snpa
-
--- a frame to that port goes to that system
-abbrev pub goes_to : List PortRow → Port → ℕ → Bool
-goes_to rows to system = list_any (λ row. row.system == system && is_one_of to row) rows
 
 -- bounds are 1 to 16 ticks, rooms 264 to 1,497 octets
 abbrev pub IsLan : Lan → Type 0

@@ -7,13 +7,16 @@ ghost use Rattle.osi_base.specs.declared.unit.Offered.TheVariants.{Taken as WasT
 ghost use Rattle.osi_base.specs.declared.unit.Picked.TheVariants.{Taken as WasPicked};
 ghost use Rattle.lan_bag.specs.Rows.{IsSetUp, sender_of};
 ghost use Rattle.lan_bag.specs.Bag.{frame_note};
-ghost use Rattle.lan_bag.specs.Frames.{live_frame, octets_of, offered, frame_of, strays_of};
+ghost use Rattle.lan_bag.specs.Frames.{live_frame, octets_of, frame_of, strays_of};
+ghost use Rattle.lan_bag.specs.Offers.{offered};
 ghost use Rattle.lan_bag.specs.steps.Index.{AreIndexed};
 
-use crate::delivery::{LeastPair, answer_to, fresh_after, fresh_while_live, judge, open_with};
+use crate::delivery::judge;
 use crate::frame::{Sent, up_of};
 use crate::frame_index::FrameIndex;
 use crate::frame_store::FrameStore;
+use crate::next_delivery::{LeastPair, fresh_after, fresh_while_live, open_with};
+use crate::offering::answer_to;
 use crate::setup::{Lan, PortRow, Setup};
 use crate::waiting::Waiting;
 use crate::wheel::Wheel;
@@ -227,6 +230,7 @@ impl LanBag {
         self.index
             .delist(self.clock, &self.setup, &self.frames, &due);
         self.frames.give_up(self.clock, &self.setup, &due);
+        self.wheel.keep_room(due);
         let fresh = self.fresh;
         self.fresh = fresh_while_live(self.clock, &self.setup, &self.frames, fresh);
     }

@@ -1,11 +1,10 @@
 //! A frame on a LAN (IEEE 802.3, MAC frame structure; ISO/IEC 8802-2, LLC PDU).
 
-ghost use Rattle.std.specs.Prelude.{◌≡◌, ◌≤◌, ◌+◌, [], length, IfOk, OnErr, OnOk};
+ghost use Rattle.std.specs.Prelude.{◌≡◌, ◌≤◌, [], length, IfOk, OnErr, OnOk};
 ghost use Rattle.lan_frame.specs.Frame.{whole_frame};
-ghost use Rattle.lan_bag.specs.Frames.{is_live, has_taken, marked, is_of};
+ghost use Rattle.lan_bag.specs.Frames.{has_taken, marked, is_of};
 ghost use Rattle.lan_bag.specs.Reading.{ups_of};
 
-use crate::setup::Setup;
 use crate::takers::Takers;
 use lan_frame::{HEADER, read_frame, write_frame};
 use nsap::Port;
@@ -73,13 +72,6 @@ impl Sent {
         ensures { result ≡ self.now.unit.to }
     {
         self.to
-    }
-
-    /// Whether it may still be taken.
-    pub fn is_live(&self, clock: Tick, setup: &Setup) -> bool
-        ensures { result ≡ is_live clock setup.now.lans self.now }
-    {
-        u64::from(clock) <= u64::from(self.tick) + u64::from(setup.bound(self.to.lan))
     }
 
     /// Whether a system took it.

@@ -1,7 +1,8 @@
 //! The frames by their numbers (IEEE 802.3).
 
 ghost use Rattle.std.specs.Prelude.{◌≡◌, ◌<◌, ◌≤◌, ◌+◌, ◌++◌, ◌∷◌, [], Some, None, if◌then◌else◌, not, ◌&&◌, ◌||◌, nat_le, length, map, is_some, option_copied, replicate, slice_get, OnOk, OnErr};
-ghost use Rattle.lan_bag.specs.Frames.{kept, frame_of, kept_at, live_count, marked_at, marked_slot};
+ghost use Rattle.lan_bag.specs.Frames.{kept, frame_of, kept_at, marked_at, marked_slot};
+ghost use Rattle.lan_bag.specs.Offers.{live_count};
 ghost use Rattle.lan_bag.specs.steps.Store.{marked_in};
 ghost use Rattle.lan_bag.specs.steps.Wheel.{AreLateAmong, given_up_at};
 

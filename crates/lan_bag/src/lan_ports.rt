@@ -2,9 +2,10 @@
 
 ghost use Rattle.std.specs.Prelude.{◌≡◌, false};
 ghost use Rattle.std.specs.List.{list_any};
-ghost use Rattle.lan_bag.specs.Rows.{is_named_by};
+ghost use Rattle.lan_bag.specs.Receivers.{is_named_by};
 
-use crate::setup::{PortRow, group_of};
+use crate::receivers::group_of;
+use crate::setup::PortRow;
 use nsap::Snpa;
 use std::marker::Model;
 

@@ -2,11 +2,13 @@
 
 ghost use Rattle.std.specs.Prelude.{◌≡◌, IfOk, false};
 ghost use Rattle.std.specs.List.{list_any};
-ghost use Rattle.lan_bag.specs.Rows.{bound_on, room_on, is_on, sender_of, has_sent, goes_to, is_named_by, is_one_of, group_of_kind};
+ghost use Rattle.lan_bag.specs.Rows.{bound_on, room_on, is_on, sender_of, has_sent};
+ghost use Rattle.lan_bag.specs.Receivers.{goes_to, is_one_of};
 ghost use Rattle.lan_bag.specs.steps.Setting.{AreOfLans, rows_on};
 
 use crate::lan_ports::LanPorts;
-use nsap::{ALL_END_SYSTEMS, ALL_INTERMEDIATE_SYSTEMS, Port, Snpa};
+use crate::receivers::goes_to;
+use nsap::Port;
 use osi_base::NoMemory;
 use std::alloc::Global;
 use std::marker::Model;
@@ -133,33 +135,6 @@ impl Setup {
     }
 }
 
-impl PortRow {
-    /// Whether the port is one of a destination.
-    pub fn is_one_of(&self, to: &Port) -> bool
-        ensures { result ≡ is_one_of to.now self.now }
-    {
-        self.port.lan == to.lan && self.is_named_by(&to.snpa)
-    }
-
-    /// Whether the port has the SNPA, or is of the kind of the group.
-    pub fn is_named_by(&self, snpa: &Snpa) -> bool
-        ensures { result ≡ is_named_by self.now snpa.now }
-    {
-        self.port.snpa == *snpa || group_of(self.end) == *snpa
-    }
-}
-
-/// The group of a kind of system.
-pub fn group_of(end: bool) -> Snpa
-    ensures { result ≡ group_of_kind end }
-{
-    Snpa::of(if end {
-        ALL_END_SYSTEMS
-    } else {
-        ALL_INTERMEDIATE_SYSTEMS
-    })
-}
-
 /// Whether a system has a port on a LAN, among these.
 fn is_on(rows: &[PortRow], system: u8, lan: u8) -> bool
     ensures { result ≡ is_on rows.now system lan }
@@ -186,14 +161,6 @@ fn has_sent(rows: &[PortRow], system: u8, from: &Port) -> bool
 {
     rows.iter()
         .any(|row| row.system == system && row.port == *from)
-}
-
-/// Whether a system is one of a destination, by these.
-fn goes_to(rows: &[PortRow], system: u8, to: &Port) -> bool
-    ensures { result ≡ goes_to rows.now to.now system }
-{
-    rows.iter()
-        .any(|row| row.system == system && row.is_one_of(to))
 }
 
 /// The ports on each LAN.

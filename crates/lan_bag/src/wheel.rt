@@ -7,6 +7,7 @@ use circular_buffer::HeapCircularBuffer;
 use osi_base::NoMemory;
 use std::alloc::Global;
 use std::marker::Model;
+use std::mem;
 
 /// How many lists there are: a frame is late after one to 17 ticks, as no bound is above 16.
 const SPAN: usize = 17;
@@ -16,17 +17,19 @@ const SPAN: usize = 17;
 pub struct Wheel {
     alloc: Global,
     lists: HeapCircularBuffer<Vec<u32>>,
+    /// No place, but the room of a list that was gone over, so that the next tick takes no memory for one.
+    spare: Vec<u32>,
 }
 
-// Each of the ticks has its list.
+// Each of the ticks has its list, and nothing stands in the one that is to spare.
 impl Model for Wheel {
-    ghost use Rattle.std.specs.Prelude.{◌≡◌, ℕ, List, length, map};
+    ghost use Rattle.std.specs.Prelude.{◌≡◌, ℕ, List, [], length, map};
 
     ghost Value = { List (List ℕ) };
 
     ghost view = { λ w. map (λ list. list.items) w.lists.items };
 
-    ghost invariant = { λ w. (w.lists.capacity ≡ 17) × (length w.lists.items ≡ 17) };
+    ghost invariant = { λ w. (w.lists.capacity ≡ 17) × (length w.lists.items ≡ 17) × (w.spare.items ≡ []) };
 }
 
 impl Wheel {
@@ -38,7 +41,11 @@ impl Wheel {
         for _ in 0..SPAN {
             let _ = lists.push_back(Vec::new(alloc));
         }
-        Ok(Wheel { alloc, lists })
+        Ok(Wheel {
+            alloc,
+            lists,
+            spare: Vec::new(alloc),
+        })
     }
 
     /// Lists the place of a frame that may be taken for so many ticks more.
@@ -61,9 +68,18 @@ impl Wheel {
         ensures due { result.items ≡ list_at self.old 0 }
         ensures rest { self.new ≡ turned self.old }
     {
-        match self.lists.push_back(Vec::new(self.alloc)) {
+        let next = mem::replace(&mut self.spare, Vec::new(self.alloc));
+        match self.lists.push_back(next) {
             Some(due) => due,
             None => Vec::new(self.alloc),
         }
+    }
+
+    /// The room of a list that was gone over is kept.
+    pub fn keep_room(&mut self, mut due: Vec<u32>)
+        ensures { self.new ≡ self.old }
+    {
+        due.clear();
+        self.spare = due;
     }
 }

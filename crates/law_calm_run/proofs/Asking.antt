@@ -1,5 +1,5 @@
 -- What users ask where nothing waits, and raw units: a refusal alone, or what the entity does.
-use Rattle.std.proofs.Common.{◌≡◌, ℕ, ◌+◌, ◌≤◌, Bool, true, false, List, [], ◌∷◌, ◌++◌, length, Option, Some, None, refl, sym, ◌∙◌, ap, subst, inr}
+use Rattle.std.proofs.Common.{◌≡◌, ℕ, ◌+◌, ◌≤◌, Bool, true, false, List, [], ◌∷◌, ◌++◌, length, Option, Some, None, refl, sym, ◌∙◌, ap, subst}
 use Rattle.std.specs.Prelude.{slice_get}
 use Rattle.std.specs.List.{AllByRecursion}
 use Rattle.nsap.specs.Address.{selector_of, system_part}
@@ -33,17 +33,18 @@ use Rattle.tp4_entity.proofs.Beginning.{short}
 use Rattle.law_tp4_proper.specs.Rest.{IsProperStep}
 use Rattle.law_tp4_proper.proofs.Ends.{calling_rests, connecting_rests}
 use Rattle.law_tp4_pair.specs.Claim.{IsUndropped}
-use Rattle.tp4_world.specs.Run.{Acts, BeginsAt, Calls, CallsAt, CallsBy, CallsEnd, Connects, ConnectsBy, IsRefused, SendsRaw, clock_of, has_ended}
+use Rattle.tp4_world.specs.Run.{Acts, BeginsAt, Calls, CallsAt, CallsBy, CallsEnd, Connects, ConnectsBy, IsRefused, SendsRaw, clock_of}
+use Rattle.tp4_world.specs.Ended.{has_ended}
 use Rattle.tp4_world.specs.Telling.{call_events, connect_event, told_refusal}
 use Rattle.tp4_world.specs.World.{World, end_numbered, entity_at}
 use Rattle.tp4_world.specs.declared.place.EndAt.{EndAt}
 use Rattle.tp4_world.specs.declared.place.Placed.{Placed}
 use Rattle.tp4_world.proofs.Destinations.{ActsFine, calling_fine, connecting_fine}
 use Rattle.law_tp4_lawful.proofs.WorldAsides.{AreQuiet, sent_quiet, told_quiet}
-use Rattle.law_calm_run.proofs.Hall.{Calling, Calls as HallCalls, Connecting, Hall, IsAddress, after, with_new}
+use Rattle.law_calm_run.proofs.Hall.{Calling, Calls as HallCalls, Connecting, Does, Hall, IsAddress, after, with_new}
 use Rattle.law_calm_run.proofs.Posting.{AreUnitsOf, IsHall}
 use Rattle.law_calm_run.proofs.Going.{Stands, Went, acts_go, have_after, kept_after, one_step, still, waiting_after}
-use Rattle.law_calm_run.proofs.Queueing.{all_parts, none_dropped, raw_behind}
+use Rattle.law_calm_run.proofs.Queueing.{all_parts, none_dropped, raw_behind, raw_between}
 
 -- what a connect line may ask: one of the sizes, selectors of 32 octets at most, and the address of a system
 pub record IsAsked (titles : List (List ℕ)) (request : ConnectRequest) : Type 0 where
@@ -79,12 +80,20 @@ module _ {C : Type 0} (link : C → Link (List ℕ)) (steps : C → Call (List �
 
   -- ---- connect
 
-  begun : (old new : World C) (hall : Hall) (queue : List (CarriedUnit (List ℕ))) (made : List Event) (system : ℕ) (entity : Entity) (request : ConnectRequest) (found : Option ℕ) → Known old hall queue → queue ≡ []
-      → AllByRecursion IsUndropped made → entity_at old.entities system ≡ Some entity → IsAsked titles request → length request.octets ≤ 32 → least_free (clock_of link steps old) entity ≡ found
-      → BeginsAt link steps old system entity request found made new → Goes_on hall made new
-  begun old new hall queue made system entity request None s none all there asked octets least step = absurd step
-  begun old new hall queue made system entity request (Some reference) s none all there asked octets least step =
-      let now : ℕ = hall.clock in
+  -- an entity made an end and sent its CR: it stands beside what waited
+  pub record Requested (hall : Hall) (system reference : ℕ) (entity : Entity) (request : ConnectRequest) (later : List Event) (new : World C) : Type 0 where
+    pub there : entity_at hall.entities system ≡ Some entity
+    pub free : least_free hall.clock entity ≡ Some reference
+    pub proper : IsProperCall (call_of entity reference request)
+    pub does : Does (with_new hall system reference) system entity.own (connecting hall.clock entity reference request) later (after (with_new hall system reference) system (connecting hall.clock entity reference request))
+    pub queue : List (CarriedUnit (List ℕ))
+    pub stands : Known new (after (with_new hall system reference) system (connecting hall.clock entity reference request)) queue
+
+  pub requested : (old new : World C) (hall : Hall) (queue : List (CarriedUnit (List ℕ))) (system reference : ℕ) (entity : Entity) (request : ConnectRequest) (later : List Event) → Known old hall queue
+      → AllByRecursion IsUndropped later → entity_at old.entities system ≡ Some entity → IsAsked titles request → length request.octets ≤ 32 → least_free (clock_of link steps old) entity ≡ Some reference
+      → Acts link steps (record old { ends = old.ends ++ record { system = system; reference = reference } ∷ [] }) system entity.own (connecting (clock_of link steps old) entity reference request) later new
+      → Requested hall system reference entity request later new
+  requested old new hall queue system reference entity request later s all there asked octets least acted_so =
       let place : List EndAt = record { system = system; reference = reference } ∷ [] in
       let there_now : entity_at hall.entities system ≡ Some entity = sym (ap (λ (ps : List Placed). entity_at ps system) s.shows.entities) ∙ there in
       let free : least_free hall.clock entity ≡ Some reference = subst (λ (n : ℕ). least_free n entity ≡ Some reference) s.shows.clock least in
@@ -92,36 +101,55 @@ module _ {C : Type 0} (link : C → Link (List ℕ)) (steps : C → Call (List �
       let proper : IsProperCall (call_of entity reference request) = record { timers = was.proper.timers; size = asked.size; calling = asked.calling; called = asked.called; octets = octets } in
       let acted : Acted = connecting hall.clock entity reference request in
       let begins : World C = record old { ends = old.ends ++ place } in
-      let acts : Acts link steps begins system entity.own acted step.0 new = subst (λ (n : ℕ). Acts link steps begins system entity.own (connecting n entity reference request) step.0 new) s.shows.clock step.1 in
+      let acts : Acts link steps begins system entity.own acted later new = subst (λ (n : ℕ). Acts link steps begins system entity.own (connecting n entity reference request) later new) s.shows.clock acted_so in
       let goes : IsProperStep hall.clock acted = connecting_rests hall.clock reference entity request (record { proper = was.proper; idle = s.rest system entity there_now }) free proper in
       let fine : ActsFine (IsAddress titles) entity.own acted = connecting_fine (IsAddress titles) hall.clock entity reference request was.ends asked.address in
       let shows : IsHall link titles Waits begins (with_new hall system reference) queue =
       record { clock = s.shows.clock; entities = s.shows.entities; ends = ap (λ (es : List EndAt). es ++ place) s.shows.ends; waits = s.shows.waits; units = s.shows.units } in
+      let a = acts_go link steps law titles Waits fifo begins new (with_new hall system reference) queue system was.title entity.own acted later shows was.title_is was.own fine goes.tpdus all acts in
+      record {
+        there = there_now;
+        free = free;
+        proper = proper;
+        does = a.does;
+        queue = a.queue;
+        stands = record {
+          shows = a.shows;
+          kept = kept_after titles hall.entities system entity acted s.kept there_now goes.rest.proper fine;
+          have = have_after titles hall.entities system acted.entity s.have;
+          rest = waiting_after link steps law titles Waits fifo hall system acted s.rest goes.rest.idle;
+        };
+      }
+
+  begun : (old new : World C) (hall : Hall) (queue : List (CarriedUnit (List ℕ))) (made : List Event) (system : ℕ) (entity : Entity) (request : ConnectRequest) (found : Option ℕ) → Known old hall queue → queue ≡ []
+      → AllByRecursion IsUndropped made → entity_at old.entities system ≡ Some entity → IsAsked titles request → length request.octets ≤ 32 → least_free (clock_of link steps old) entity ≡ found
+      → BeginsAt link steps old system entity request found made new → Goes_on hall made new
+  begun old new hall queue made system entity request None s none all there asked octets least step = absurd step
+  begun old new hall queue made system entity request (Some reference) s none all there asked octets least step =
       let event : Event = connect_event (length old.ends + 1) system reference entity.own request in
-      let a = acts_go link steps law titles Waits fifo begins new (with_new hall system reference) queue system was.title entity.own acted step.0 shows was.title_is was.own fine goes.tpdus
-      (undropped_behind (event ∷ []) made step.0 step.2 all) acts in
-      let next : Hall = after (with_new hall system reference) system acted in
+      let q = requested old new hall queue system reference entity request step.0 s (undropped_behind (event ∷ []) made step.0 step.2 all) there asked octets least step.1 in
+      let next : Hall = after (with_new hall system reference) system (connecting hall.clock entity reference request) in
       record {
         next = next;
-        queue = a.queue;
+        queue = q.queue;
         goes = one_step titles hall next made s.kept (Connecting (record {
-          idle = subst (λ (q : List (CarriedUnit (List ℕ))). AreUnitsOf titles q hall.posts) none s.shows.units;
+          idle = subst (λ (units : List (CarriedUnit (List ℕ))). AreUnitsOf titles units hall.posts) none s.shows.units;
           system = system;
           entity = entity;
-          there = there_now;
+          there = q.there;
           request = request;
           reference = reference;
-          free = free;
-          proper = proper;
+          free = q.free;
+          proper = q.proper;
           address = asked.address;
           later = step.0;
-          does = a.does;
+          does = q.does;
           made_is = step.2 ∙ ap (λ (es : List EndAt). connect_event (length es + 1) system reference entity.own request ∷ step.0) s.shows.ends;
         }));
-        shows = a.shows;
-        kept = kept_after titles hall.entities system entity acted s.kept there_now goes.rest.proper fine;
-        have = have_after titles hall.entities system acted.entity s.have;
-        rest = waiting_after link steps law titles Waits fifo hall system acted s.rest goes.rest.idle;
+        shows = q.stands.shows;
+        kept = q.stands.kept;
+        have = q.stands.have;
+        rest = q.stands.rest;
       }
 
   connect_by : (old new : World C) (hall : Hall) (queue : List (CarriedUnit (List ℕ))) (made : List Event) (system : ℕ) (entity : Entity) (request : ConnectRequest) (why : Option ConnectRefusal) → Known old hall queue
@@ -250,12 +278,7 @@ module _ {C : Type 0} (link : C → Link (List ℕ)) (steps : C → Call (List �
   raw_sent old new hall queue made system to sender receiver wish (octet ∷ octets) below s all title_is to_is path step becomes =
       let unit : CarriedUnit (List ℕ) = raw_unit sender receiver (octet ∷ octets) in
       let event : Event = sent_event system (raw_address receiver) (octet ∷ octets) step.0 in
-      let between : IsBetween titles unit = record {
-        sender = system;
-        receiver = to;
-        from = record { title = sender; title_is = title_is; selector = 2; known = inr refl; address_is = refl };
-        to = record { title = receiver; title_is = to_is; selector = 2; known = inr refl; address_is = refl };
-      } in
+      let between : IsBetween titles unit = raw_between titles system to sender receiver (octet ∷ octets) title_is to_is in
       let goes = fifo.offered old.carrier below queue unit wish step.0 step.1 s.shows.waits between path step.2 (none_dropped step.1 (undropped_behind (event ∷ []) made (told step.1) step.3 all)) in
       let shows : IsHall link titles Waits (record old { carrier = below }) hall (queued queue unit step.0) = record {
         clock = step.2.gathers.stands.clock ∙ (law old.carrier (Offer unit wish step.0) step.2.called step.2.steps_to).clock ∙ s.shows.clock;

@@ -1,6 +1,6 @@
 -- A calm network goes on as the network without its carrier does: an entity that acts leaves its TPDUs in the queue, and a delivery hands over none or
 -- the first of them.
-use Rattle.std.proofs.Common.{◌≡◌, ℕ, ◌+◌, Bool, true, false, List, [], ◌∷◌, ◌++◌, Option, Some, None, refl, sym, ◌∙◌, ap, subst, inl, inr, append-nil, append_assoc}
+use Rattle.std.proofs.Common.{◌≡◌, ◌⊎◌, ℕ, ◌+◌, Bool, true, false, List, [], ◌∷◌, ◌++◌, Option, Some, None, refl, sym, ◌∙◌, ap, subst, inl, inr, append-nil, append_assoc}
 use Rattle.std.specs.Prelude.{◌==◌, ◌&&◌, is_some, nat_eq, slice_get}
 use Rattle.std.specs.Cmp.Lexicographic.{bytes_decides, pointwise}
 use Rattle.std.specs.List.{AllByRecursion}
@@ -23,7 +23,7 @@ use Rattle.tp4_conn.specs.Proper.{AreSendable}
 use Rattle.tp4_entity.specs.Association.{met}
 use Rattle.tp4_entity.specs.Entity.{Acted, Entity, at}
 use Rattle.tp4_entity.specs.Step.{first_due}
-use Rattle.tp4_entity.specs.References.{is_silent}
+use Rattle.tp4_entity.specs.Silence.{is_silent}
 use Rattle.tp4_entity.specs.Unit.{TakesBy, TakesUnit}
 use Rattle.law_tp4_proper.specs.Rest.{AreProper, IsProperStep}
 use Rattle.law_tp4_proper.proofs.Heards.{taken_rests}
@@ -86,7 +86,7 @@ one_step titles old new made kept step = More old made new new made [] (λ syste
 
 -- ---- arrivals
 
-pub fits : (titles : List (List ℕ)) (system : ℕ) (entity : Entity) (to : List ℕ) → IsKept titles system entity → IsUser titles to system → selector_of to ≡ 1 → entity.own ≡ to
+fits : (titles : List (List ℕ)) (system : ℕ) (entity : Entity) (to : List ℕ) → IsKept titles system entity → IsUser titles to system → selector_of to ≡ 1 → entity.own ≡ to
 fits titles system entity to kept user one =
     let title : user.title ≡ kept.title = some_title user.title kept.title (sym user.title_is ∙ kept.title_is) in
     let selector : user.selector ≡ 1 = sym (selector_of-append (system_part user.title) user.selector) ∙ ap selector_of (sym user.address_is) ∙ one in
@@ -95,10 +95,10 @@ fits titles system entity to kept user one =
     some_title : (one other : List ℕ) → Some one ≡ Some other → one ≡ other
     some_title one other is = cc is
 
-pub both_true : (one other : Bool) → one ≡ true → other ≡ true → (one && other) ≡ true
+both_true : (one other : Bool) → one ≡ true → other ≡ true → (one && other) ≡ true
 both_true one other p q = ap (λ (b : Bool). b && other) p ∙ q
 
-pub first_false : (one other : Bool) → one ≡ false → (one && other) ≡ false
+first_false : (one other : Bool) → one ≡ false → (one && other) ≡ false
 first_false one other p = ap (λ (b : Bool). b && other) p
 
 module _ {C : Type 0} (link : C → Link (List ℕ)) (steps : C → Call (List ℕ) → C → Type 0)
@@ -137,12 +137,12 @@ module _ {C : Type 0} (link : C → Link (List ℕ)) (steps : C → Call (List �
 
   -- ---- what came up
 
-  pub hears_none : (ups : List (Up (List ℕ))) (old new : World C) (made : List Event) → arrivals ups ≡ [] → HearsAll link steps whole old ups made new → (made ≡ []) × (new ≡ old)
+  hears_none : (ups : List (Up (List ℕ))) (old new : World C) (made : List Event) → arrivals ups ≡ [] → HearsAll link steps whole old ups made new → (made ≡ []) × (new ≡ old)
   hears_none [] old new made none h = h
   hears_none (Noted note ∷ ups) old new made none h = hears_none ups old new made none h
   hears_none (Came arrival ∷ ups) old new made none h = absurd cc
 
-  pub hears_one : (ups : List (Up (List ℕ))) (old new : World C) (arrival : Arrival (List ℕ)) (made : List Event) → arrivals ups ≡ arrival ∷ [] → HearsAll link steps whole old ups made new
+  hears_one : (ups : List (Up (List ℕ))) (old new : World C) (arrival : Arrival (List ℕ)) (made : List Event) → arrivals ups ≡ arrival ∷ [] → HearsAll link steps whole old ups made new
       → Hears link steps whole old arrival made new
   hears_one [] old new arrival made one h = absurd cc
   hears_one (Noted note ∷ ups) old new arrival made one h = hears_one ups old new arrival made one h
@@ -185,9 +185,53 @@ module _ {C : Type 0} (link : C → Link (List ℕ)) (steps : C → Call (List �
     | inr before ↦ rest other x before
   ]
 
-  -- nothing came of it
-  abbrev pub still : (old new : World C) (hall : Hall) (queue left : List (CarriedUnit (List ℕ))) (made : List Event) → Stands old hall queue → IsHall link titles Waits new hall left → AreQuiet made → Went hall made new
-  still old new hall queue left made s shows quiet = record { next = hall; queue = left; goes = one_step titles hall hall made s.kept (Still (are_aside made quiet) refl); shows = shows; kept = s.kept; have = s.have; rest = s.rest }
+  -- nothing came to an entity: quiet events alone are told
+  pub record HasStayed (old : World C) (hall : Hall) (made : List Event) (new : World C) : Type 0 where
+    pub queue : List (CarriedUnit (List ℕ))
+    pub stands : Stands new hall queue
+    pub entities : new.entities ≡ old.entities
+    pub ends : new.ends ≡ old.ends
+    pub clock : (link new.carrier).clock ≡ (link old.carrier).clock
+    pub quiet : AreQuiet made
+
+  -- the first TPDU that waits came to the entity at its address: behind quiet events stands what that entity did
+  pub record HasHanded (old : World C) (hall : Hall) (made : List Event) (new : World C) : Type 0 where
+    pub post : Post
+    pub rest : List Post
+    pub posts_are : hall.posts ≡ post ∷ rest
+    pub unit : CarriedUnit (List ℕ)
+    pub unit_is : IsUnitOf titles unit post
+    pub system : ℕ
+    pub entity : Entity
+    pub there : entity_at hall.entities system ≡ Some entity
+    pub own_is : entity.own ≡ post.sent.to
+    pub acted : Acted
+    pub takes : TakesUnit whole hall.clock entity unit.from unit.octets acted
+    pub kept : acted.entity.own ≡ entity.own
+    pub entities : new.entities ≡ with_entity old.entities system acted.entity
+    pub ends : new.ends ≡ ends_after old.ends system acted.events
+    pub front : List Event
+    pub quiet : AreQuiet front
+    pub later : List Event
+    pub made_is : made ≡ front ++ later
+    pub does : Does (record hall { posts = rest }) system entity.own acted later (after (record hall { posts = rest }) system acted)
+    pub queue : List (CarriedUnit (List ℕ))
+    pub stands : Stands new (after (record hall { posts = rest }) system acted) queue
+
+  -- the carrier alone went on
+  stayed : (old new : World C) (hall : Hall) (before queue : List (CarriedUnit (List ℕ))) (below : C) (front later made : List Event) → Stands old hall before → Waits below queue → AreUnitsOf titles queue hall.posts
+      → (link below).clock ≡ (link old.carrier).clock → AreQuiet front → made ≡ front ++ later → (later ≡ []) × (new ≡ record old { carrier = below }) → HasStayed old hall made new
+  stayed old new hall before queue below front later made s waits units clock quiet made_is h =
+      let shows : IsHall link titles Waits (record old { carrier = below }) hall queue =
+      record { clock = clock ∙ s.shows.clock; entities = s.shows.entities; ends = s.shows.ends; waits = waits; units = units } in
+      record {
+        queue = queue;
+        stands = record { shows = subst (λ (x : World C). IsHall link titles Waits x hall queue) (sym h.1) shows; kept = s.kept; have = s.have; rest = s.rest };
+        entities = ap (λ (x : World C). x.entities) h.1;
+        ends = ap (λ (x : World C). x.ends) h.1;
+        clock = ap (λ (x : World C). (link x.carrier).clock) h.1 ∙ clock;
+        quiet = subst AreQuiet (sym (made_is ∙ ap (λ (es : List Event). front ++ es) h.0 ∙ append-nil front)) quiet;
+      }
 
   -- the first unit was handed over; `mid` is the network with what waits then
   module _ (old new : World C) (hall : Hall) (before : List (CarriedUnit (List ℕ))) (s : Stands old hall before) (below : C) (unit : CarriedUnit (List ℕ)) (queue : List (CarriedUnit (List ℕ))) (system : ℕ)
@@ -200,25 +244,18 @@ module _ {C : Type 0} (link : C → Link (List ℕ)) (steps : C → Call (List �
     arrival = record { system = system; unit = unit }
 
     -- a raw unit touches no entity
-    raw_heard : selector_of unit.to ≡ 2 → AreUnitsOf titles queue hall.posts → Hears link steps whole mid arrival later new → Went hall made new
-    raw_heard raw left h = by (entity_at old.entities system) h
+    raw_heard : selector_of unit.to ≡ 2 → AreUnitsOf titles queue hall.posts → Hears link steps whole mid arrival later new → HasStayed old hall made new
+    raw_heard raw left h = stayed old new hall before queue below front later made s waits left clock quiet made_is (by (entity_at old.entities system) h)
       where
-        shows : IsHall link titles Waits mid hall queue
-        shows = record { clock = clock ∙ s.shows.clock; entities = s.shows.entities; ends = s.shows.ends; waits = waits; units = left }
-
-        done : (later ≡ []) × (new ≡ mid) → Went hall made new
-        done h = still old new hall before queue made s (subst (λ (x : World C). IsHall link titles Waits x hall queue) (sym h.1) shows)
-            (subst AreQuiet (sym (made_is ∙ ap (λ (es : List Event). front ++ es) h.0 ∙ append-nil front)) quiet)
-
         other : (e : Entity) → is_for link steps whole unit.to (Some e) ≡ false
         other e = first_false (selector_of unit.to == 1) (pointwise nat_eq e.own unit.to) (ap (λ (n : ℕ). n == 1) raw)
 
-        by : (place : Option Entity) → HearsIf link steps whole mid arrival place (is_for link steps whole unit.to place) later new → Went hall made new
-        by None h = done h
-        by (Some e) h = done (subst (λ (b : Bool). HearsIf link steps whole mid arrival (Some e) b later new) (other e) h)
+        by : (place : Option Entity) → HearsIf link steps whole mid arrival place (is_for link steps whole unit.to place) later new → (later ≡ []) × (new ≡ mid)
+        by None h = h
+        by (Some e) h = subst (λ (b : Bool). HearsIf link steps whole mid arrival (Some e) b later new) (other e) h
 
     -- a TPDU is handed to the entity at its address
-    post_heard : (post : Post) (rest : List Post) → hall.posts ≡ post ∷ rest → IsUnitOf titles unit post → AreUnitsOf titles queue rest → Hears link steps whole mid arrival later new → Went hall made new
+    post_heard : (post : Post) (rest : List Post) → hall.posts ≡ post ∷ rest → IsUnitOf titles unit post → AreUnitsOf titles queue rest → Hears link steps whole mid arrival later new → HasHanded old hall made new
     post_heard post rest posts_are is left h = takes at_it.0 at_it.1 at_it.2
       where
         here : (entity : Entity) × (entity_at hall.entities system ≡ Some entity)
@@ -249,47 +286,46 @@ module _ {C : Type 0} (link : C → Link (List ℕ)) (steps : C → Call (List �
         shows : IsHall link titles Waits mid left_hall queue
         shows = record { clock = clock ∙ s.shows.clock; entities = s.shows.entities; ends = s.shows.ends; waits = waits; units = left }
 
-        takes : (acted : Acted) → TakesUnit whole (link below).clock here.0 unit.from unit.octets acted → Acts link steps mid system here.0.own acted later new → Went hall made new
+        takes : (acted : Acted) → TakesUnit whole (link below).clock here.0 unit.from unit.octets acted → Acts link steps mid system here.0.own acted later new → HasHanded old hall made new
         takes acted heard acts =
             let now : TakesUnit whole hall.clock here.0 unit.from unit.octets acted = subst (λ (n : ℕ). TakesUnit whole n here.0 unit.from unit.octets acted) (clock ∙ s.shows.clock) heard in
-            let so : (silent : Bool) → is_silent hall.clock here.0 ≡ silent → TakesBy silent whole hall.clock here.0 unit.from unit.octets acted =
-            λ silent is. subst (λ (b : Bool). TakesBy b whole hall.clock here.0 unit.from unit.octets acted) is now in
             let proper : IsProperStep hall.clock acted = taken_rests whole hall.clock here.0 unit.from unit.octets acted (record { proper = kept.proper; idle = s.rest system here.0 here.1 }) now in
             let from : IsAddress titles unit.from = record { system = post.system; title = is.title; title_is = is.title_is; address_is = is.from } in
             let fine : ActsFine (IsAddress titles) here.0.own acted = taking_fine (IsAddress titles) unit.from from whole hall.clock here.0 unit.octets acted kept.ends now in
             let a = acts_go mid new left_hall queue system kept.title here.0.own acted later shows kept.title_is kept.own fine proper.tpdus all acts in
-            let next : Hall = after left_hall system acted in
-            let meets : Meets titles hall later next = record {
+            record {
               post = post;
               rest = rest;
               posts_are = posts_are;
-              title = is.title;
-              title_is = is.title_is;
+              unit = unit;
+              unit_is = is;
               system = system;
               entity = here.0;
               there = here.1;
               own_is = own ∙ is.to;
               acted = acted;
-              heard = λ awake read. heard_as hall.clock here.0 unit.from unit.octets post.sent acted is.sendable is.written (so false awake) read
-                  ∙ ap (λ (f : List ℕ). met whole hall.clock (at hall.clock here.0) f (was post.sent)) is.from;
-              ignores = λ silent. so true silent;
-              same = takes_same whole hall.clock here.0 unit.from unit.octets acted now;
+              takes = now;
+              kept = fine.own_is;
+              entities = ap (λ (x : World C). x.entities) acts.becomes;
+              ends = ap (λ (x : World C). x.ends) acts.becomes;
+              front = front;
+              quiet = quiet;
+              later = later;
+              made_is = made_is;
               does = a.does;
-            } in
-            record {
-              next = next;
               queue = a.queue;
-              goes = goes_then titles hall hall next made front later (one_step titles hall hall front s.kept (Still (are_aside front quiet) refl)) (one_step titles hall next later s.kept (Meeting meets)) made_is;
-              shows = a.shows;
-              kept = kept_after titles hall.entities system here.0 acted s.kept here.1 proper.rest.proper fine;
-              have = have_after titles hall.entities system acted.entity s.have;
-              rest = waiting_after hall system acted s.rest proper.rest.idle;
+              stands = record {
+                shows = a.shows;
+                kept = kept_after titles hall.entities system here.0 acted s.kept here.1 proper.rest.proper fine;
+                have = have_after titles hall.entities system acted.entity s.have;
+                rest = waiting_after hall system acted s.rest proper.rest.idle;
+              };
             }
 
-  -- a delivery of a settle
-  pub delivered : (old new : World C) (hall : Hall) (queue : List (CarriedUnit (List ℕ))) (made : List Event) (pair : ℕ × ℕ) → Stands old hall queue → IsLeastFresh (link old.carrier) (Some pair) → AllByRecursion IsUndropped made
-      → Delivers link steps whole old pair.0 pair.1 WasPicked made new → Went hall made new
-  delivered old new hall queue made pair s least all d = by (fifo.chosen old.carrier d.below queue pair d.ups s.shows.waits least d.passes (none_dropped d.ups parts.0))
+  -- a delivery of a settle hands over none or the first
+  pub handed : (old new : World C) (hall : Hall) (queue : List (CarriedUnit (List ℕ))) (made : List Event) (pair : ℕ × ℕ) → Stands old hall queue → IsLeastFresh (link old.carrier) (Some pair) → AllByRecursion IsUndropped made
+      → Delivers link steps whole old pair.0 pair.1 WasPicked made new → HasStayed old hall made new ⊎ HasHanded old hall made new
+  handed old new hall queue made pair s least all d = by (fifo.chosen old.carrier d.below queue pair d.ups s.shows.waits least d.passes (none_dropped d.ups parts.0))
     where
       own : Event
       own = picked_event pair.0 pair.1 WasPicked
@@ -309,19 +345,60 @@ module _ {C : Type 0} (link : C → Link (List ℕ)) (steps : C → Call (List �
       mid : World C
       mid = record old { carrier = d.below }
 
-      by : Hands titles Waits queue d.ups d.below → Went hall made new
+      by : Hands titles Waits queue d.ups d.below → HasStayed old hall made new ⊎ HasHanded old hall made new
       by (Nothing none waits) =
-          let h = hears_none d.ups mid new d.later none d.hears in
-          let shows : IsHall link titles Waits mid hall queue =
-          record { clock = clock ∙ s.shows.clock; entities = s.shows.entities; ends = s.shows.ends; waits = waits; units = s.shows.units } in
-          still old new hall queue queue made s (subst (λ (x : World C). IsHall link titles Waits x hall queue) (sym h.1) shows)
-          (subst AreQuiet (sym (d.made_is ∙ ap (λ (es : List Event). (own ∷ told d.ups) ++ es) h.0 ∙ append-nil (own ∷ told d.ups))) quiet)
+          inl (stayed old new hall queue queue d.below (own ∷ told d.ups) d.later made s waits s.shows.units clock quiet d.made_is (hears_none d.ups mid new d.later none d.hears))
       by (First unit left system queue_is arrived user waits) =
           let h = hears_one d.ups mid new (record { system = system; unit = unit }) d.later arrived d.hears in
           elim (subst (λ (q : List (CarriedUnit (List ℕ))). AreUnitsOf titles q hall.posts) queue_is s.shows.units) [
-            | inl raw ↦ raw_heard old new hall queue s d.below unit left system user waits clock (own ∷ told d.ups) d.later made quiet d.made_is parts.1 raw.0 raw.1 h
-            | inr p ↦ post_heard old new hall queue s d.below unit left system user waits clock (own ∷ told d.ups) d.later made quiet d.made_is parts.1 p.0 p.1 p.2 p.3 p.4 h
+            | inl raw ↦ inl (raw_heard old new hall queue s d.below unit left system user waits clock (own ∷ told d.ups) d.later made quiet d.made_is parts.1 raw.0 raw.1 h)
+            | inr p ↦ inr (post_heard old new hall queue s d.below unit left system user waits clock (own ∷ told d.ups) d.later made quiet d.made_is parts.1 p.0 p.1 p.2 p.3 p.4 h)
           ]
+
+  -- nothing came of it
+  abbrev pub still : (old new : World C) (hall : Hall) (queue left : List (CarriedUnit (List ℕ))) (made : List Event) → Stands old hall queue → IsHall link titles Waits new hall left → AreQuiet made → Went hall made new
+  still old new hall queue left made s shows quiet = record { next = hall; queue = left; goes = one_step titles hall hall made s.kept (Still (are_aside made quiet) refl); shows = shows; kept = s.kept; have = s.have; rest = s.rest }
+
+  -- an entity took the first that waits
+  meets_first : (old new : World C) (hall : Hall) (queue : List (CarriedUnit (List ℕ))) (made : List Event) → Stands old hall queue → HasHanded old hall made new → Went hall made new
+  meets_first old new hall queue made s h =
+      let is = h.unit_is in
+      let so : (silent : Bool) → is_silent hall.clock h.entity ≡ silent → TakesBy silent whole hall.clock h.entity h.unit.from h.unit.octets h.acted =
+      λ silent it. subst (λ (b : Bool). TakesBy b whole hall.clock h.entity h.unit.from h.unit.octets h.acted) it h.takes in
+      let next : Hall = after (record hall { posts = h.rest }) h.system h.acted in
+      let meets : Meets titles hall h.later next = record {
+        post = h.post;
+        rest = h.rest;
+        posts_are = h.posts_are;
+        title = is.title;
+        title_is = is.title_is;
+        system = h.system;
+        entity = h.entity;
+        there = h.there;
+        own_is = h.own_is;
+        acted = h.acted;
+        heard = λ awake read. heard_as hall.clock h.entity h.unit.from h.unit.octets h.post.sent h.acted is.sendable is.written (so false awake) read
+            ∙ ap (λ (f : List ℕ). met whole hall.clock (at hall.clock h.entity) f (was h.post.sent)) is.from;
+        ignores = λ silent. so true silent;
+        same = takes_same whole hall.clock h.entity h.unit.from h.unit.octets h.acted h.takes;
+        does = h.does;
+      } in
+      record {
+        next = next;
+        queue = h.queue;
+        goes = goes_then titles hall hall next made h.front h.later (one_step titles hall hall h.front s.kept (Still (are_aside h.front h.quiet) refl)) (one_step titles hall next h.later s.kept (Meeting meets)) h.made_is;
+        shows = h.stands.shows;
+        kept = h.stands.kept;
+        have = h.stands.have;
+        rest = h.stands.rest;
+      }
+
+  pub delivered : (old new : World C) (hall : Hall) (queue : List (CarriedUnit (List ℕ))) (made : List Event) (pair : ℕ × ℕ) → Stands old hall queue → IsLeastFresh (link old.carrier) (Some pair) → AllByRecursion IsUndropped made
+      → Delivers link steps whole old pair.0 pair.1 WasPicked made new → Went hall made new
+  delivered old new hall queue made pair s least all d = elim (handed old new hall queue made pair s least all d) [
+    | inl h ↦ still old new hall queue h.queue made s h.stands.shows h.quiet
+    | inr h ↦ meets_first old new hall queue made s h
+  ]
 
   -- ---- a settle
 

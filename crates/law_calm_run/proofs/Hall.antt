@@ -12,13 +12,15 @@ use Rattle.tp4_conn.specs.declared.call.ConnectRequest.{ConnectRequest}
 use Rattle.tp4_conn.specs.declared.call.UserCall.{UserCall}
 use Rattle.tp4_entity.specs.Association.{met}
 use Rattle.tp4_entity.specs.Entity.{Acted, Entity, at}
-use Rattle.tp4_entity.specs.References.{is_silent, least_free}
+use Rattle.tp4_entity.specs.References.{least_free}
+use Rattle.tp4_entity.specs.Silence.{is_silent}
 use Rattle.tp4_entity.specs.Step.{call_of, calling, connecting, first_due, ticking, user_refusal}
 use Rattle.tp4_entity.specs.Unit.{extended_of, ignored}
 use Rattle.script_journal.specs.declared.event.Event.{Event}
 use Rattle.law_tp4_history.specs.Journals.{IsAside}
 use Rattle.law_tp4_proper.specs.Rest.{AreProper}
-use Rattle.tp4_world.specs.Run.{has_ended, transport_address}
+use Rattle.tp4_world.specs.Run.{transport_address}
+use Rattle.tp4_world.specs.Ended.{has_ended}
 use Rattle.tp4_world.specs.Telling.{call_events, connect_event, ends_after, events_after}
 use Rattle.tp4_world.specs.World.{end_numbered, entity_at, with_entity}
 use Rattle.tp4_world.specs.declared.place.EndAt.{EndAt}

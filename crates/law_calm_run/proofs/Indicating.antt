@@ -23,30 +23,25 @@ use Rattle.tp4_flow.specs.declared.step.Sent.{Sent}
 use Rattle.tp4_conn.specs.Agreeing.{proposed_by, request as cr_of}
 use Rattle.tp4_conn.specs.End.{IsSized}
 use Rattle.tp4_conn.specs.Making.{called_end, caller, indicated}
-use Rattle.tp4_conn.specs.Proper.{IsProperCall}
 use Rattle.tp4_conn.specs.declared.call.ConnectRequest.{ConnectRequest}
 use Rattle.tp4_entity.specs.Association.{met}
 use Rattle.tp4_entity.specs.Entity.{Acted, Entity, at, moved}
 use Rattle.tp4_entity.specs.References.{least_free}
 use Rattle.tp4_entity.specs.Step.{call_of, connect_refusal, connecting}
 use Rattle.tp4_entity.specs.declared.refusal.ConnectRefusal.{ConnectRefusal}
-use Rattle.law_tp4_proper.specs.Rest.{IsProperStep}
-use Rattle.law_tp4_proper.proofs.Ends.{connecting_rests}
 use Rattle.law_tp4_pair.specs.Claim.{IsUndropped}
 use Rattle.law_tp4_pair.proofs.Confirming.{incoming}
-use Rattle.tp4_world.specs.Run.{Acts, BeginsAt, ConnectsBy, IsRefused, clock_of, transport_address}
+use Rattle.tp4_world.specs.Run.{BeginsAt, ConnectsBy, IsRefused, clock_of, transport_address}
 use Rattle.tp4_world.specs.Telling.{events_after, told_connect}
 use Rattle.tp4_world.specs.World.{World, entity_at, latest}
-use Rattle.tp4_world.specs.declared.place.EndAt.{EndAt}
 use Rattle.tp4_world.specs.declared.place.Placed.{Placed}
-use Rattle.tp4_world.proofs.Destinations.{ActsFine, connecting_fine}
 use Rattle.law_calm_run.specs.Run.{IsCalmRun, IsStart}
 use Rattle.law_calm_run.specs.Service.{ConnectsAndSettles, ConnectsAreIndicated, IsIndicationOf, MayIndicate}
 use Rattle.law_calm_run.proofs.Hall.{Calling, Clocking, Connecting, Done, Goes, Hall, IsReadBy, Meeting, Meets, More, Post, Step, Still, after, with_new}
-use Rattle.law_calm_run.proofs.Posting.{AreKept, AreUnitsOf, IsHall}
+use Rattle.law_calm_run.proofs.Posting.{AreKept, AreUnitsOf}
 use Rattle.tp4_entity.proofs.Beginning.{short}
-use Rattle.law_calm_run.proofs.Asking.{IsAsked}
-use Rattle.law_calm_run.proofs.Going.{HasSettled, Stands, acts_go, have_after, kept_after, settled, stands_then, waiting_after}
+use Rattle.law_calm_run.proofs.Asking.{IsAsked, requested}
+use Rattle.law_calm_run.proofs.Going.{HasSettled, Stands, settled, stands_then}
 use Rattle.law_calm_run.proofs.Queueing.{all_parts}
 use Rattle.law_calm_run.proofs.Starting.{first_hall, first_never, run_settles}
 use Rattle.law_tp4_lawful.specs.First.{AreDistinct}
@@ -116,40 +111,6 @@ no_refusal asked why xs ys is = cc is
 module _ {C : Type 0} (link : C → Link (List ℕ)) (steps : C → Call (List ℕ) → C → Type 0)
     (law : (old : C) (call : Call (List ℕ)) (new : C) → steps old call new → Keeps (link old) call (link new))
     (titles : List (List ℕ)) (Waits : C → List (CarriedUnit (List ℕ)) → Type 0) (fifo : IsFifo link steps titles Waits) where
-  -- an entity made an end and sent its CR: it stands beside what waited
-  record Requested (hall : Hall) (system reference : ℕ) (entity : Entity) (request : ConnectRequest) (new : World C) : Type 0 where
-    queue : List (CarriedUnit (List ℕ))
-    stands : Stands link steps law titles Waits fifo new (after (with_new hall system reference) system (connecting hall.clock entity reference request)) queue
-
-  requested : (old new : World C) (hall : Hall) (queue : List (CarriedUnit (List ℕ))) (system reference : ℕ) (entity : Entity) (request : ConnectRequest) (later : List Event)
-      → Stands link steps law titles Waits fifo old hall queue → AllByRecursion IsUndropped later → entity_at old.entities system ≡ Some entity → IsAsked titles request → length request.octets ≤ 32
-      → least_free (clock_of link steps old) entity ≡ Some reference
-      → Acts link steps (record old { ends = old.ends ++ record { system = system; reference = reference } ∷ [] }) system entity.own (connecting (clock_of link steps old) entity reference request) later new
-      → Requested hall system reference entity request new
-  requested old new hall queue system reference entity request later s all there asked octets least acted_so =
-      let place : List EndAt = record { system = system; reference = reference } ∷ [] in
-      let there_now : entity_at hall.entities system ≡ Some entity = sym (ap (λ (ps : List Placed). entity_at ps system) s.shows.entities) ∙ there in
-      let free : least_free hall.clock entity ≡ Some reference = subst (λ (n : ℕ). least_free n entity ≡ Some reference) s.shows.clock least in
-      let was = s.kept system entity there_now in
-      let proper : IsProperCall (call_of entity reference request) = record { timers = was.proper.timers; size = asked.size; calling = asked.calling; called = asked.called; octets = octets } in
-      let acted : Acted = connecting hall.clock entity reference request in
-      let begins : World C = record old { ends = old.ends ++ place } in
-      let acts : Acts link steps begins system entity.own acted later new = subst (λ (n : ℕ). Acts link steps begins system entity.own (connecting n entity reference request) later new) s.shows.clock acted_so in
-      let goes : IsProperStep hall.clock acted = connecting_rests hall.clock reference entity request (record { proper = was.proper; idle = s.rest system entity there_now }) free proper in
-      let fine : ActsFine _ entity.own acted = connecting_fine _ hall.clock entity reference request was.ends asked.address in
-      let shows : IsHall link titles Waits begins (with_new hall system reference) queue =
-      record { clock = s.shows.clock; entities = s.shows.entities; ends = ap (λ (es : List EndAt). es ++ place) s.shows.ends; waits = s.shows.waits; units = s.shows.units } in
-      let a = acts_go link steps law titles Waits fifo begins new (with_new hall system reference) queue system was.title entity.own acted later shows was.title_is was.own fine goes.tpdus all acts in
-      record {
-        queue = a.queue;
-        stands = record {
-          shows = a.shows;
-          kept = kept_after titles hall.entities system entity acted s.kept there_now goes.rest.proper fine;
-          have = have_after titles hall.entities system acted.entity s.have;
-          rest = waiting_after link steps law titles Waits fifo hall system acted s.rest goes.rest.idle;
-        };
-      }
-
   -- ---- the settle behind it
 
   module _ (distinct : AreDistinct titles) (hall : Hall) (none : hall.posts ≡ []) (system to : ℕ) (receiver : List ℕ) (to_is : slice_get titles to ≡ Some receiver) (reference : ℕ) (entity : Entity) (request : ConnectRequest)
@@ -262,7 +223,7 @@ module _ {C : Type 0} (link : C → Link (List ℕ)) (steps : C → Call (List �
         let asked_is : asked ≡ asked_by (length before.ends + 1) system reference entity.own request = connect_same asked _ c.later begins.0 begins.2 in
         let later_is : begins.0 ≡ c.later = sym (connect_rest asked (asked_by (length before.ends + 1) system reference entity.own request) c.later begins.0 begins.2) in
         let there_now : entity_at done.went.next.entities system ≡ Some entity = sym (ap (λ (ps : List Placed). entity_at ps system) known.shows.entities) ∙ there in
-        let r = requested before c.between done.went.next done.went.queue system reference entity request begins.0 known (subst (λ (es : List Event). AllByRecursion IsUndropped es) (sym later_is) parts.0) there is_asked short_enough least begins.1 in
+        let r = requested link steps law titles Waits fifo before c.between done.went.next done.went.queue system reference entity request begins.0 known (subst (λ (es : List Event). AllByRecursion IsUndropped es) (sym later_is) parts.0) there is_asked short_enough least begins.1 in
         let after_it : Hall = after (with_new done.went.next system reference) system (connecting done.went.next.clock entity reference request) in
         let never : AreNever after_it.entities = never_after done.went.next.entities system entity (connecting done.went.next.clock entity reference request).entity
         (never_goes titles (first_hall titles timers Waits first start link steps law fifo) journal done.went.next done.went.goes (first_never titles timers Waits first start)) there_now

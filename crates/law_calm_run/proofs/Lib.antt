@@ -4,6 +4,7 @@ pub mod Hall
 pub mod Indicating
 pub mod Lines
 pub mod Never
+pub mod Newest
 pub mod Posting
 pub mod Queueing
 pub mod Reading

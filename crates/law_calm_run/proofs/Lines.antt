@@ -12,7 +12,7 @@ use Rattle.tp4_number.specs.Number.{whole}
 use Rattle.tpdu.specs.declared.service.Options.{Options}
 use Rattle.tp4_conn.specs.End.{IsSized}
 use Rattle.tp4_conn.specs.declared.call.UserCall.TheVariants as asks
-use Rattle.law_tp4_pair.specs.Calm.{IsSettledScript, Settles as IsSettledNext}
+use Rattle.law_tp4_pair.specs.CalmScript.{IsSettledScript, Settles as IsSettledNext}
 use Rattle.law_tp4_pair.specs.Claim.{IsUndropped}
 use Rattle.tp4_world.specs.Run.{RunsLine, RunsLines}
 use Rattle.tp4_world.specs.World.{World}

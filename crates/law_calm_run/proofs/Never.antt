@@ -4,7 +4,7 @@ use Rattle.script_journal.specs.declared.event.Event.{Event}
 use Rattle.tp4_conn.specs.End.{frozen_for}
 use Rattle.tp4_number.specs.Number.{whole}
 use Rattle.tp4_entity.specs.Entity.{Entity, at}
-use Rattle.tp4_entity.specs.References.{is_silent, is_within}
+use Rattle.tp4_entity.specs.Silence.{is_silent, is_within}
 use Rattle.tp4_entity.specs.Step.{calling, connecting, ticking}
 use Rattle.tp4_entity.proofs.Restarts.{calling_same, connecting_same, ticking_same}
 use Rattle.tp4_world.specs.World.{entity_at, with_entity}

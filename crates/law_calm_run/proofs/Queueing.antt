@@ -13,6 +13,7 @@ use Rattle.osi_base.specs.declared.unit.Up.{Up}
 use Rattle.osi_base.specs.declared.unit.Up.TheVariants.{Unit as Came, Note as Noted}
 use Rattle.script_journal.specs.declared.event.Event.{Event}
 use Rattle.net_world.specs.Fifo.{IsBetween, IsFifo, IsUser, NoneDropped, queued}
+use Rattle.net_world.specs.Run.{raw_unit}
 use Rattle.net_world.specs.Told.{shown_at, told}
 use Rattle.tp4_flow.specs.declared.step.Sent.{Sent}
 use Rattle.tp4_conn.specs.Proper.{AreSendable, IsSendable}
@@ -53,6 +54,16 @@ pub raw_behind : (titles : List (List ℕ)) (queue : List (CarriedUnit (List ℕ
 raw_behind titles [] posts unit none raw = inl (raw, none)
 raw_behind titles (first ∷ queue) posts unit (inl here) raw = inl (here.0, raw_behind titles queue posts unit here.1 raw)
 raw_behind titles (first ∷ queue) posts unit (inr h) raw = inr (h.0, h.1, h.2, h.3, raw_behind titles queue h.1 unit h.4 raw)
+
+-- it is between the users of raw units of two systems
+pub raw_between : (titles : List (List ℕ)) (system to : ℕ) (sender receiver octets : List ℕ) → slice_get titles system ≡ Some sender → slice_get titles to ≡ Some receiver
+    → IsBetween titles (raw_unit sender receiver octets)
+raw_between titles system to sender receiver octets title_is to_is = record {
+  sender = system;
+  receiver = to;
+  from = record { title = sender; title_is = title_is; selector = 2; known = inr refl; address_is = refl };
+  to = record { title = receiver; title_is = to_is; selector = 2; known = inr refl; address_is = refl };
+}
 
 -- ---- the TPDUs of an entity
 

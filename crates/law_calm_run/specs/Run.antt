@@ -11,7 +11,7 @@ use Rattle.script_lines.specs.declared.line.Line.TheVariants as lines
 use Rattle.tp4_conn.specs.End.{IsTimed}
 use Rattle.tp4_conn.specs.declared.timers.Timers.{Timers}
 use Rattle.tp4_entity.specs.Entity.{Entity}
-use Rattle.law_tp4_pair.specs.Calm.{IsSettledScript}
+use Rattle.law_tp4_pair.specs.CalmScript.{IsSettledScript}
 use Rattle.law_tp4_pair.specs.Claim.{IsUndropped}
 use Rattle.tp4_world.specs.First.{IsNew}
 use Rattle.tp4_world.specs.Run.{RunsLines}

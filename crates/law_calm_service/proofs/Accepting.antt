@@ -6,7 +6,7 @@ use Rattle.std.proofs.lemmas.List.Elements.{Contains-append_left, Contains-appen
 use Rattle.osi_base.specs.Calls.{Call, Keeps}
 use Rattle.osi_base.specs.Link.{Link}
 use Rattle.osi_base.specs.declared.unit.Unit.{Unit as CarriedUnit}
-use Rattle.script_journal.specs.Lawful.{AreEnds}
+use Rattle.script_journal.specs.Partner.{AreEnds}
 use Rattle.script_journal.specs.declared.cause.Refused.{Refused}
 use Rattle.script_journal.specs.declared.event.Event.{Event}
 use Rattle.script_journal.specs.declared.event.Event.TheVariants as events
@@ -47,7 +47,7 @@ use Rattle.tp4_world.specs.World.{entity_at, latest, with_entity}
 use Rattle.tp4_world.specs.declared.place.EndAt.{EndAt}
 use Rattle.tp4_world.specs.declared.place.Placed.{Placed}
 use Rattle.law_tp4_associations.specs.Association.{Association, Posted, post, with_party}
-use Rattle.law_tp4_associations.specs.Handing.{Aside, AreProperEnds, Begins, IsBetweenOpen, Taken, Takes}
+use Rattle.law_tp4_associations.specs.Handing.{Aside, Begins, IsBetweenOpen, Taken, Takes}
 use Rattle.law_tp4_associations.specs.steps.Together.{Laws}
 use Rattle.law_tp4_associations.specs.Standing.{IsParty, Standing}
 use Rattle.law_tp4_associations.specs.Ticking.{IsTicking}
@@ -61,10 +61,10 @@ use Rattle.law_calm_run.proofs.Queueing.{all_parts}
 use Rattle.law_calm_run.proofs.Never.{AreNever, awake, never_goes, never_then}
 use Rattle.law_calm_run.proofs.Starting.{first_hall, first_never, run_settles}
 use Rattle.law_calm_service.specs.steps.Confirms.{AcceptsAreConfirmed}
-use Rattle.law_calm_service.proofs.Story.{ArePosts, Story, address_of}
+use Rattle.law_calm_service.proofs.Story.{Story, address_of}
 use Rattle.law_calm_service.proofs.Continuing.{get_set_same, some_same}
 use Rattle.law_calm_service.proofs.Keeping.{has_story}
-use Rattle.law_calm_service.proofs.Partnering.{none_waits}
+use Rattle.law_calm_service.proofs.Queued.{is_idle, proper_ends}
 use Rattle.law_calm_service.proofs.Placing.{IsWhere, party_of, where_it_stands}
 use Rattle.law_tp4_lawful.proofs.ActsHeld.{first_there}
 use Rattle.tpdu.specs.declared.service.EndTold.TheVariants as tells
@@ -208,10 +208,7 @@ module _ (titles : List (List ℕ)) (timers : Timers) (laws : Laws timers (addre
       ∙ ap (λ (a : Acted). events_after hall.ends c.end.system c.entity.own a.events ++ c.does.aside) acted_is
 
   stood : Standing timers own hall.clock hall.entities s.all []
-  stood = subst (λ (queue : List Posted). Standing timers own hall.clock hall.entities s.all queue) (none_waits s.all s.queue (subst (ArePosts s.all s.queue) c.idle s.posts)) s.standing
-
-  are_proper : (placed : List Placed) → AreAllProper placed → AreProperEnds placed
-  are_proper placed all system reference end stands = ((all system stands.0 stands.1).ends reference end stands.2).proper
+  stood = (is_idle timers own hall journal s c.idle).standing
 
   -- ---- what is met first
 
@@ -232,7 +229,7 @@ module _ (titles : List (List ℕ)) (timers : Timers) (laws : Laws timers (addre
     stands =
         subst (λ (h : Hall). Standing timers own hall.clock h.entities all (waits ∷ [])) (sym becomes)
         (subst (λ (m : Moved). Standing timers own hall.clock (with_entity hall.entities c.end.system acted.entity) all (post k false m.tpdus)) row_is
-        (laws.calls hall.clock hall.entities s.all k false c.end.system c.end.reference y o.called_party c.entity (Accept options octets) stood (are_proper hall.entities proper) c.there asked.stands allowed size))
+        (laws.calls hall.clock hall.entities s.all k false c.end.system c.end.reference y o.called_party c.entity (Accept options octets) stood (proper_ends hall.entities proper) c.there asked.stands allowed size))
 
     at_k : slice_get all k ≡ Some b
     at_k = get_set_same s.all k b a o.called_party.is
@@ -296,8 +293,8 @@ module _ (titles : List (List ℕ)) (timers : Timers) (laws : Laws timers (addre
     confirms_it : meets.acted ≡ moved (at hall.clock meets.entity) x.base.own
         (confirmed (record x.base { partner = y.base.own; credit = y.base.timers.credit; agreed = Some agreed; clock = hall.clock }) agreed octets)
     confirms_it =
-        let hands = laws.handed hall.clock next.entities all waits [] meets.entity b stands (are_proper next.entities proper_then) at_k there_is in
-        let may = laws.accepts hall.clock hall.entities s.all k a x y asked.since r options stood (are_proper hall.entities proper) o.called_party.is o.calling_is o.called_party.end_is asked.waits x_waits size in
+        let hands = laws.handed hall.clock next.entities all waits [] meets.entity b stands (proper_ends next.entities proper_then) at_k there_is in
+        let may = laws.accepts hall.clock hall.entities s.all k a x y asked.since r options stood (proper_ends hall.entities proper) o.called_party.is o.calling_is o.called_party.end_is asked.waits x_waits size in
         heard ∙ taken_by (at hall.clock meets.entity) _ hands.others hands.b hands.takes
         ∙ ap (moved (at hall.clock meets.entity) x.base.own) (confirms_so hall.clock x y r options octets x_waits may.proposed may.size may.size_asked)
 

@@ -1,6 +1,6 @@
 -- A user's call on an end, where nothing waits: the end of that number is one of an association, and what comes of the call is what the associations have
 -- to hand over.
-use Rattle.std.proofs.Common.{◌≡◌, ◌⊎◌, ℕ, ◌==◌, Bool, true, false, not, ◌||◌, List, [], ◌++◌, slice_set, Option, Some, None, refl, sym, ◌∙◌, ap, subst, inl, inr, arith}
+use Rattle.std.proofs.Common.{◌≡◌, ◌⊎◌, ℕ, ◌==◌, Bool, true, false, not, ◌||◌, List, ◌++◌, slice_set, Option, Some, None, refl, sym, ◌∙◌, ap, subst, inl, inr, arith}
 use Rattle.script_journal.specs.declared.event.Event.{Event as JournalEvent}
 use Rattle.tp4_number.specs.Number.{whole}
 use Rattle.tpdu.specs.declared.service.Options.{Options}
@@ -18,19 +18,18 @@ use Rattle.tp4_entity.specs.References.{is_free}
 use Rattle.tp4_entity.specs.Step.{calling, calling_end, end_refusal, refused_by, user_refusal}
 use Rattle.law_tp4_pair.specs.steps.Standing.{HasLeft}
 use Rattle.law_tp4_moves.specs.Lines.{given, shown_in}
-use Rattle.tp4_world.specs.Run.{has_ended}
+use Rattle.tp4_world.specs.Ended.{has_ended}
 use Rattle.tp4_world.specs.Telling.{call_events, events_after}
 use Rattle.tp4_world.specs.World.{latest, with_entity}
 use Rattle.tp4_world.specs.declared.place.EndAt.{EndAt}
-use Rattle.law_tp4_associations.specs.Association.{Association, Posted, post, with_party}
+use Rattle.law_tp4_associations.specs.Association.{Association, post, with_party}
 use Rattle.law_tp4_associations.specs.Laws.{Answerable, MayAccept, WasCalled}
-use Rattle.law_tp4_associations.specs.Handing.{AreProperEnds}
 use Rattle.law_tp4_associations.specs.Standing.{IsParty, Standing}
 use Rattle.law_calm_run.proofs.Hall.{AreAllProper, Calls, Hall, Post, after, posted}
 use Rattle.law_calm_service.proofs.Story.{ArePosts, IsRunning, IsYoung, Story, Tells}
 use Rattle.law_calm_service.proofs.Acting.{acts_of, ends_same}
 use Rattle.law_calm_service.proofs.Calling.{MayBegin, tells_called, tells_calling}
-use Rattle.law_calm_service.proofs.Queued.{none_posted, party_systems, posts_of, set_still}
+use Rattle.law_calm_service.proofs.Queued.{IsIdle, is_idle, party_systems, posts_of, proper_ends, set_still}
 use Rattle.law_calm_service.proofs.Telling.{ActsIn}
 use Rattle.std.specs.Prelude.{is_none}
 
@@ -75,17 +74,8 @@ module _ (timers : Timers) (own : ℕ → List ℕ) (called : WasCalled timers o
   abbrev event : Moved
   event = stepped whole old.clock asked.end (Called c.call)
 
-  queue_is : s.queue ≡ []
-  queue_is = none_posted s.all s.queue old.posts s.posts c.idle
-
-  stood : Standing timers own old.clock old.entities s.all []
-  stood = subst (Standing timers own old.clock old.entities s.all) queue_is s.standing
-
-  told : Tells IsRunning own old.clock old.ends s.all [] s.number journal
-  told = subst (λ (queue : List Posted). Tells IsRunning own old.clock old.ends s.all queue s.number journal) queue_is s.tells
-
-  are_proper : AreProperEnds old.entities
-  are_proper system reference end stands = ((proper system stands.0 stands.1).ends reference end stands.2).proper
+  idle : IsIdle timers own old journal s
+  idle = is_idle timers own old journal s c.idle
 
   -- what the entity does
   acted_is : calling whole old.clock c.entity c.end.reference c.call ≡ moved (at old.clock c.entity) c.end.reference event
@@ -104,7 +94,7 @@ module _ (timers : Timers) (own : ℕ → List ℕ) (called : WasCalled timers o
     standing : Standing timers own old.clock (with_entity old.entities c.end.system acted.entity) all (post k by event.tpdus)
     standing =
         subst (λ (a : Acted). Standing timers own old.clock (with_entity old.entities c.end.system a.entity) all (post k by event.tpdus)) acted_is
-        (called old.clock old.entities s.all k by c.end.system c.end.reference asked.end p c.entity c.call stood are_proper c.there asked.stands c.allowed c.proper)
+        (called old.clock old.entities s.all k by c.end.system c.end.reference asked.end p c.entity c.call idle.standing (proper_ends old.entities proper) c.there asked.stands c.allowed c.proper)
 
     posts_are : ArePosts all (post k by event.tpdus) (old.posts ++ posted c.end.system event.tpdus)
     posts_are =
@@ -117,32 +107,32 @@ module _ (timers : Timers) (own : ℕ → List ℕ) (called : WasCalled timers o
 
     number_is : s.number k by ≡ Some c.number
     number_is =
-        told.numbered.party_is k p.a by asked.end p.is p.end_is
+        idle.tells.numbered.party_is k p.a by asked.end p.is p.end_is
         ∙ ap (λ (n : ℕ). Some (latest old.ends n asked.end.base.own)) p.system_is ∙ ap (λ (n : ℕ). Some n) latest_is
 
     acts : ActsIn c.number lines (given (Called c.call)) (shown_in event.events) event.events
     acts =
-        acts_of old.clock asked.end (Called c.call) (told.owns k p.a by asked.end p.is p.end_is) old.ends c.end.system c.entity.own c.number c.does.aside lines latest_is c.does.is_aside refl
+        acts_of old.clock asked.end (Called c.call) (idle.tells.owns k p.a by asked.end p.is p.end_is) old.ends c.end.system c.entity.own c.number c.does.aside lines latest_is c.does.is_aside refl
 
   -- at an accept the calling end waits for it, or has left
   begins : (k : ℕ) (p : IsParty s.all k false c.end.system c.end.reference asked.end) (x : End) (since : ℕ) (options : Options) (octets : List ℕ) → p.a.calling ≡ Some x → (HasLeft x.stage → ⊥)
       → asked.end.stage ≡ UserWait since → c.call ≡ Accept options octets → MayBegin old.clock x asked.end options
-  begins k p x since options octets x_is stays stage call_is = by_calling (answerable old.clock old.entities s.all k p.a x asked.end since stood p.is x_is p.end_is stage)
+  begins k p x since options octets x_is stays stage call_is = by_calling (answerable old.clock old.entities s.all k p.a x asked.end since idle.standing p.is x_is p.end_is stage)
     where
       by_calling : HasLeft x.stage ⊎ ((r : InCrWait) × (x.stage ≡ CrWait r)) → MayBegin old.clock x asked.end options
       by_calling (inl left) = absurd (stays left)
       by_calling (inr waits) = (
         subst IsYoung (sym waits.1) tt,
-        may_accept old.clock old.entities s.all k p.a x asked.end since waits.0 options stood are_proper p.is x_is p.end_is stage waits.1 (accept_size c.call options octets call_is c.proper),
+        may_accept old.clock old.entities s.all k p.a x asked.end since waits.0 options idle.standing (proper_ends old.entities proper) p.is x_is p.end_is stage waits.1 (accept_size c.call options octets call_is c.proper),
       )
 
   tells_then : (k : ℕ) (by : Bool) (p : IsParty s.all k by c.end.system c.end.reference asked.end)
       → Tells IsRunning own old.clock old.ends (all k by p) (post k by event.tpdus) s.number (journal ++ lines k by p)
   tells_then k true p =
-      tells_calling own old.clock old.ends s.all s.number journal (lines k true p) k c.call p.a asked.end c.number p.is asked.may told p.end_is (number_is k true p) (acts k true p)
+      tells_calling own old.clock old.ends s.all s.number journal (lines k true p) k c.call p.a asked.end c.number p.is asked.may idle.tells p.end_is (number_is k true p) (acts k true p)
   tells_then k false p =
-      tells_called own old.clock old.ends s.all s.number journal (lines k false p) k c.call p.a asked.end c.number p.is asked.may told p.end_is (number_is k false p) (acts k false p)
-      (λ r stage. told.uncalling k p.a asked.end r p.is p.end_is stage) (begins k p)
+      tells_called own old.clock old.ends s.all s.number journal (lines k false p) k c.call p.a asked.end c.number p.is asked.may idle.tells p.end_is (number_is k false p) (acts k false p)
+      (λ r stage. idle.tells.uncalling k p.a asked.end r p.is p.end_is stage) (begins k p)
 
   abbrev next : Acted → Hall
   next acted = after old c.end.system acted
@@ -155,13 +145,13 @@ module _ (timers : Timers) (own : ℕ → List ℕ) (called : WasCalled timers o
     standing = standing k by p;
     posts = posts_are k by p;
     tells = subst (λ (es : List EndAt). Tells IsRunning own old.clock es (all k by p) (post k by event.tpdus) s.number (journal ++ lines k by p))
-        (sym (ends_same old.clock asked.end (Called c.call) (told.owns k p.a by asked.end p.is p.end_is) old.ends c.end.system c.entity.own)) (tells_then k by p);
+        (sym (ends_same old.clock asked.end (Called c.call) (idle.tells.owns k p.a by asked.end p.is p.end_is) old.ends c.end.system c.entity.own)) (tells_then k by p);
   }
 
   -- a call keeps what stands beside the network
   pub calls_keeps : Story timers own new (journal ++ made)
   calls_keeps =
-      let known = stood.known c.end.system c.end.reference asked.end (c.entity, c.there, asked.stands) in
+      let known = idle.standing.known c.end.system c.end.reference asked.end (c.entity, c.there, asked.stands) in
       let made_is : made ≡ lines known.0 known.1 known.2 =
       c.made_is
       ∙ ap (λ (later : List JournalEvent). call_events c.number c.call ++ later)

@@ -17,12 +17,12 @@ use Rattle.law_tp4_moves.specs.Lines.{shown_in}
 use Rattle.tp4_world.specs.declared.place.EndAt.{EndAt}
 use Rattle.law_tp4_associations.specs.Association.{Association, Posted, post, waiting, with_party}
 use Rattle.law_tp4_associations.specs.Phase.{IsInUse}
-use Rattle.law_calm_service.proofs.Story.{AreOpening, HasNoUnits, IsClocking, IsRunning, IsYoung, Numbers, Tells}
+use Rattle.law_calm_service.proofs.Story.{AreOpening, HasNoUnits, HasTicked, IsClocking, IsRunning, IsYoung, Numbers, Tells}
 use Rattle.law_calm_service.proofs.Calling.{Answers, Nobodys, Partners, Users, answers}
 use Rattle.law_calm_service.proofs.Continuing.{some_same}
 use Rattle.law_calm_service.proofs.Pairing.{clocking_begins, clocking_ends, ticked_now, ticked_stays}
 use Rattle.law_calm_service.proofs.Passing.{all_stay, none_more}
-use Rattle.law_calm_service.proofs.Stepping.{two_sides, waiting_append, waiting_other, waiting_own, waiting_side}
+use Rattle.law_calm_service.proofs.Stepping.{own_behind, side_behind, two_sides, waiting_append, waiting_other}
 use Rattle.law_calm_service.proofs.Storying.{linked_on, tells_acted}
 use Rattle.law_calm_service.proofs.Telling.{ActsIn}
 use Rattle.law_calm_service.proofs.Young.{row_answers, row_from}
@@ -58,9 +58,10 @@ tells_over own now ends all queue number journal t = record {
   uncalling = t.uncalling;
 }
 
-clocking_stays : (journal made : List JournalEvent) (now c d : ℕ) (x y : End) (forth back : List Sent) → IsClocking journal now c d x y forth back → HasNoUnits made c → HasNoUnits made d
-    → IsClocking (journal ++ made) now c d x y forth back
-clocking_stays journal made now c d x y forth back r one other = record {
+-- the same two ends, by the tick at these
+clocking_at : (journal later : List JournalEvent) (now c d : ℕ) (x y next other : End) (forth back more others : List Sent) (r : IsClocking journal now c d x y forth back)
+    → HasTicked r.earlier later now c r.calling next r.told more → HasTicked r.earlier later now d r.called other r.theirs others → IsClocking later now c d next other more others
+clocking_at journal later now c d x y next other forth back more others r one two = record {
   earlier = r.earlier;
   before = r.before;
   calling = r.calling;
@@ -69,9 +70,15 @@ clocking_stays journal made now c d x y forth back r one other = record {
   theirs = r.theirs;
   run = r.run;
   clock = r.clock;
-  calling_did = ticked_stays r.earlier journal made now c r.calling x r.told forth r.calling_did one;
-  called_did = ticked_stays r.earlier journal made now d r.called y r.theirs back r.called_did other;
+  calling_did = one;
+  called_did = two;
 }
+
+clocking_stays : (journal made : List JournalEvent) (now c d : ℕ) (x y : End) (forth back : List Sent) → IsClocking journal now c d x y forth back → HasNoUnits made c → HasNoUnits made d
+    → IsClocking (journal ++ made) now c d x y forth back
+clocking_stays journal made now c d x y forth back r one other =
+    clocking_at journal (journal ++ made) now c d x y x y forth back forth back r (ticked_stays r.earlier journal made now c r.calling x r.told forth r.calling_did one)
+    (ticked_stays r.earlier journal made now d r.called y r.theirs back r.called_did other)
 
 differ : true ≡ false → ⊥
 differ e = cc e
@@ -101,26 +108,14 @@ module _ (own : ℕ → List ℕ) (now : ℕ) (ends : List EndAt) (all : List As
           let apart : c ≢ d = two_sides ends all number k c d t.numbered (slice_get_within all k a is) c_is d_is in
           let told : ActsIn c made [] (shown_in M.events) M.events = subst (λ (i : ℕ). ActsIn i made [] (shown_in M.events) M.events) c_n acts in
           let was = t.pairs k a end y c d is end_is y_is c_is d_is before in
-          let goes : IsClocking (journal ++ made) now c d (end_of M) y (waiting k true queue ++ M.tpdus) (waiting k false queue) = record {
-            earlier = was.earlier;
-            before = was.before;
-            calling = was.calling;
-            called = was.called;
-            told = was.told;
-            theirs = was.theirs;
-            run = was.run;
-            clock = was.clock;
-            calling_did = ticked_now was.earlier journal made now c was.calling end was.told (waiting k true queue) was.calling_did due told over;
-            called_did = ticked_stays was.earlier journal made now d was.called y was.theirs (waiting k false queue) was.called_did
-                (record { gave = told.other_gave d (λ e. apart (sym e)); showed = told.other_showed d (λ e. apart (sym e)) });
-          } in
-          let forth_is : waiting k true queue ++ M.tpdus ≡ waiting k true (queue ++ post k true M.tpdus) =
-          sym (waiting_append k true queue (post k true M.tpdus) ∙ ap (λ (l : List Sent). waiting k true queue ++ l) (waiting_own k true M.tpdus)) in
-          let back_is : waiting k false queue ≡ waiting k false (queue ++ post k true M.tpdus) =
-          sym (waiting_append k false queue (post k true M.tpdus) ∙ ap (λ (l : List Sent). waiting k false queue ++ l) (waiting_side k true M.tpdus) ∙ append-nil (waiting k false queue)) in
+          let goes : IsClocking (journal ++ made) now c d (end_of M) y (waiting k true queue ++ M.tpdus) (waiting k false queue) =
+          clocking_at journal (journal ++ made) now c d end y (end_of M) y (waiting k true queue) (waiting k false queue) (waiting k true queue ++ M.tpdus) (waiting k false queue) was
+          (ticked_now was.earlier journal made now c was.calling end was.told (waiting k true queue) was.calling_did due told over)
+          (ticked_stays was.earlier journal made now d was.called y was.theirs (waiting k false queue) was.called_did
+          (record { gave = told.other_gave d (λ e. apart (sym e)); showed = told.other_showed d (λ e. apart (sym e)) })) in
           subst (λ (e : End). IsClocking (journal ++ made) now c d e y (waiting k true (queue ++ post k true M.tpdus)) (waiting k false (queue ++ post k true M.tpdus))) x_same
-          (subst (λ (l : List Sent). IsClocking (journal ++ made) now c d (end_of M) y l (waiting k false (queue ++ post k true M.tpdus))) forth_is
-          (subst (λ (l : List Sent). IsClocking (journal ++ made) now c d (end_of M) y (waiting k true queue ++ M.tpdus) l) back_is goes))
+          (subst (λ (l : List Sent). IsClocking (journal ++ made) now c d (end_of M) y l (waiting k false (queue ++ post k true M.tpdus))) (own_behind k true queue M.tpdus)
+          (subst (λ (l : List Sent). IsClocking (journal ++ made) now c d (end_of M) y (waiting k true queue ++ M.tpdus) l) (side_behind k true queue M.tpdus) goes))
 
   -- the called end ticks
   pub tells_called_tick : a.called ≡ Some end → number k false ≡ Some n → ((e : End) → place ≡ Some e → e ≡ end_of M) → is_due now (Some (end_of M)) ≡ false
@@ -147,22 +142,10 @@ module _ (own : ℕ → List ℕ) (now : ℕ) (ends : List EndAt) (all : List As
           let apart : c ≢ d = two_sides ends all number k c d t.numbered (slice_get_within all k a is) c_is d_is in
           let told : ActsIn d made [] (shown_in M.events) M.events = subst (λ (i : ℕ). ActsIn i made [] (shown_in M.events) M.events) d_n acts in
           let was = t.pairs k a x end c d is x_is end_is c_is d_is before in
-          let goes : IsClocking (journal ++ made) now c d x (end_of M) (waiting k true queue) (waiting k false queue ++ M.tpdus) = record {
-            earlier = was.earlier;
-            before = was.before;
-            calling = was.calling;
-            called = was.called;
-            told = was.told;
-            theirs = was.theirs;
-            run = was.run;
-            clock = was.clock;
-            calling_did = ticked_stays was.earlier journal made now c was.calling x was.told (waiting k true queue) was.calling_did (record { gave = told.other_gave c apart; showed = told.other_showed c apart });
-            called_did = ticked_now was.earlier journal made now d was.called end was.theirs (waiting k false queue) was.called_did due told over;
-          } in
-          let forth_is : waiting k true queue ≡ waiting k true (queue ++ post k false M.tpdus) =
-          sym (waiting_append k true queue (post k false M.tpdus) ∙ ap (λ (l : List Sent). waiting k true queue ++ l) (waiting_side k false M.tpdus) ∙ append-nil (waiting k true queue)) in
-          let back_is : waiting k false queue ++ M.tpdus ≡ waiting k false (queue ++ post k false M.tpdus) =
-          sym (waiting_append k false queue (post k false M.tpdus) ∙ ap (λ (l : List Sent). waiting k false queue ++ l) (waiting_own k false M.tpdus)) in
+          let goes : IsClocking (journal ++ made) now c d x (end_of M) (waiting k true queue) (waiting k false queue ++ M.tpdus) =
+          clocking_at journal (journal ++ made) now c d x end x (end_of M) (waiting k true queue) (waiting k false queue) (waiting k true queue) (waiting k false queue ++ M.tpdus) was
+          (ticked_stays was.earlier journal made now c was.calling x was.told (waiting k true queue) was.calling_did (record { gave = told.other_gave c apart; showed = told.other_showed c apart }))
+          (ticked_now was.earlier journal made now d was.called end was.theirs (waiting k false queue) was.called_did due told over) in
           subst (λ (e : End). IsClocking (journal ++ made) now c d x e (waiting k true (queue ++ post k false M.tpdus)) (waiting k false (queue ++ post k false M.tpdus))) y_same
-          (subst (λ (l : List Sent). IsClocking (journal ++ made) now c d x (end_of M) l (waiting k false (queue ++ post k false M.tpdus))) forth_is
-          (subst (λ (l : List Sent). IsClocking (journal ++ made) now c d x (end_of M) (waiting k true queue) l) back_is goes))
+          (subst (λ (l : List Sent). IsClocking (journal ++ made) now c d x (end_of M) l (waiting k false (queue ++ post k false M.tpdus))) (side_behind k false queue M.tpdus)
+          (subst (λ (l : List Sent). IsClocking (journal ++ made) now c d x (end_of M) (waiting k true queue) l) (own_behind k false queue M.tpdus) goes))

@@ -12,18 +12,17 @@ use Rattle.tp4_entity.specs.Entity.{Entity}
 use Rattle.tp4_entity.specs.Step.{call_of, connecting}
 use Rattle.tp4_world.specs.Run.{transport_address}
 use Rattle.tp4_world.specs.World.{entity_at}
-use Rattle.law_tp4_associations.specs.Association.{Association, Posted, cleared, post, waiting}
-use Rattle.law_tp4_associations.specs.Handing.{AreProperEnds, requested_by}
+use Rattle.law_tp4_associations.specs.Association.{Association, cleared, post, waiting}
+use Rattle.law_tp4_associations.specs.Handing.{requested_by}
 use Rattle.law_tp4_associations.specs.Laws.{Connected}
-use Rattle.law_tp4_associations.specs.Standing.{Standing}
 use Rattle.law_calm_run.proofs.Hall.{AreAllProper, Connects, Hall, Post, after, posted, with_new}
-use Rattle.law_calm_service.proofs.Story.{ArePosts, IsRunning, Story, Tells, address_of}
+use Rattle.law_calm_service.proofs.Story.{ArePosts, IsRunning, Story, address_of}
 use Rattle.law_calm_service.proofs.Continuing.{length_map}
 use Rattle.law_calm_service.proofs.Freeing.{is_freed}
 use Rattle.law_calm_service.proofs.Making.{tells_connected}
 use Rattle.law_calm_service.proofs.Numbering.{with_caller}
 use Rattle.law_calm_service.proofs.Pairing.{running_stays}
-use Rattle.law_calm_service.proofs.Queued.{none_posted, posts_of}
+use Rattle.law_calm_service.proofs.Queued.{IsIdle, is_idle, posts_of, proper_ends}
 
 last_one : {A : Type 0} (xs : List A) (x : A) → slice_get (xs ++ x ∷ []) (length xs) ≡ Some x
 last_one [] x = refl
@@ -72,17 +71,8 @@ module _ (titles : List (List ℕ)) (timers : Timers) (connected : Connected tim
   abbrev tpdus : List Sent
   tpdus = (connecting old.clock c.entity c.reference c.request).tpdus
 
-  queue_is : s.queue ≡ []
-  queue_is = none_posted s.all s.queue old.posts s.posts c.idle
-
-  stood : Standing timers own old.clock old.entities s.all []
-  stood = subst (Standing timers own old.clock old.entities s.all) queue_is s.standing
-
-  told : Tells IsRunning own old.clock old.ends s.all [] s.number journal
-  told = subst (λ (queue : List Posted). Tells IsRunning own old.clock old.ends s.all queue s.number journal) queue_is s.tells
-
-  are_proper : AreProperEnds old.entities
-  are_proper system reference end stands = ((proper system stands.0 stands.1).ends reference end stands.2).proper
+  idle : IsIdle timers own old journal s
+  idle = is_idle timers own old journal s c.idle
 
   to_is : c.request.to ≡ own c.address.system
   to_is = c.address.address_is ∙ ap (λ (o : Option (List ℕ)). transport_address (unwrap_or o [])) (sym c.address.title_is)
@@ -90,8 +80,8 @@ module _ (titles : List (List ℕ)) (timers : Timers) (connected : Connected tim
   others : (k : ℕ) (b : Association) (y : End) → slice_get s.all k ≡ Some b → b.calling ≡ Some y → own b.from.system ≡ own c.system → b.from.reference ≡ c.reference
       → (b.from.system ≡ c.system) × (y.base.own ≡ c.reference)
   others k b y at is same reference =
-      let e = stood.there k b true at in
-      (stood.systems.apart b.from.system c.system e.0 c.entity e.1 c.there same, ((stood.each k b at).caller y is).own_is ∙ reference)
+      let e = idle.standing.there k b true at in
+      (idle.standing.systems.apart b.from.system c.system e.0 c.entity e.1 c.there same, ((idle.standing.each k b at).caller y is).own_is ∙ reference)
 
   there_is : slice_get all (length s.all) ≡ Some a
   there_is = ap (slice_get all) (sym (length_map (cleared c.system c.reference) s.all)) ∙ last_one (map (cleared c.system c.reference) s.all) a
@@ -102,14 +92,14 @@ module _ (titles : List (List ℕ)) (timers : Timers) (connected : Connected tim
     queue = post (length s.all) true tpdus;
     number = with_caller s.number (length s.all) (length old.ends + 1);
     standing =
-        connected old.clock old.entities s.all c.system c.entity c.reference c.request c.address.system (have c.address.system c.address.title c.address.title_is).0 stood are_proper c.there c.free c.proper to_is
+        connected old.clock old.entities s.all c.system c.entity c.reference c.request c.address.system (have c.address.system c.address.title c.address.title_is).0 idle.standing (proper_ends old.entities proper) c.there c.free c.proper to_is
         (have c.address.system c.address.title c.address.title_is).1;
     posts = subst (λ (before : List Post). ArePosts all (post (length s.all) true tpdus) (before ++ posted c.system tpdus)) (sym c.idle) (posts_of all (length s.all) true c.system a tpdus there_is refl);
     tells =
-        tells_connected IsRunning (λ j m now one two x y forth back. running_stays j m now one two x y forth back) own old.clock old.ends s.all [] s.number journal told c.system c.reference a
+        tells_connected IsRunning (λ j m now one two x y forth back. running_stays j m now one two x y forth back) own old.clock old.ends s.all [] s.number journal idle.tells c.system c.reference a
         made_end refl refl refl refl tt c.does.aside request c.does.is_aside.ends (λ m. record { gave = (c.does.is_aside.units m).0; showed = (c.does.is_aside.units m).1 })
-        (stood.systems.own_is c.system c.entity c.there) refl refl others (post (length s.all) true tpdus) (λ k by low. none_elsewhere k (length s.all) by tpdus low)
-        (is_freed old.clock old.entities c.system c.entity c.there c.reference c.free timers own s.all [] stood);
+        (idle.standing.systems.own_is c.system c.entity c.there) refl refl others (post (length s.all) true tpdus) (λ k by low. none_elsewhere k (length s.all) by tpdus low)
+        (is_freed old.clock old.entities c.system c.entity c.there c.reference c.free timers own s.all [] idle.standing);
   }
 
   -- a connect keeps what stands beside the network

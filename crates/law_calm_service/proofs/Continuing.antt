@@ -6,46 +6,20 @@ use Rattle.tp4_conn.specs.End.{End}
 use Rattle.tp4_world.specs.World.{latest}
 use Rattle.tp4_world.specs.declared.place.EndAt.{EndAt}
 use Rattle.law_tp4_associations.specs.Association.{Association, cleared, party, system_of, with_party, without}
+use Rattle.law_tp4_associations.proofs.Places.{get_same}
+pub use Rattle.law_tp4_associations.proofs.Places.{get_map as map_get, get_other as get_set_other, map_count as length_map, set_count as length_set}
+pub use Rattle.law_tp4_lawful.proofs.WorldPlaces.{none_some, some_same}
 use Rattle.law_calm_service.proofs.Story.{AreNumbered, Numbers}
 
 -- ---- lists
 
-pub some_same : {A : Type 0} (x y : A) → Some x ≡ Some y → x ≡ y
-some_same x y is = cc is
-
-pub none_some : {A : Type 0} (x : A) → None ≡ Some x → ⊥
-none_some x is = absurd cc
-
 pub get_set_same : {A : Type 0} (xs : List A) (k : ℕ) (x y : A) → slice_get xs k ≡ Some y → slice_get (slice_set xs k x) k ≡ Some x
-get_set_same [] k x y is = absurd (none_some y is)
-get_set_same (z ∷ xs) zero x y is = refl
-get_set_same (z ∷ xs) (suc k) x y is = get_set_same xs k x y is
-
-pub get_set_other : {A : Type 0} (xs : List A) (k j : ℕ) (x : A) → (j ≡ k → ⊥) → slice_get (slice_set xs k x) j ≡ slice_get xs j
-get_set_other [] k j x apart = refl
-get_set_other (z ∷ xs) zero zero x apart = absurd (apart refl)
-get_set_other (z ∷ xs) zero (suc j) x apart = refl
-get_set_other (z ∷ xs) (suc k) zero x apart = refl
-get_set_other (z ∷ xs) (suc k) (suc j) x apart = get_set_other xs k j x (λ same. apart (ap suc same))
-
-pub length_set : {A : Type 0} (xs : List A) (k : ℕ) (x : A) → length (slice_set xs k x) ≡ length xs
-length_set [] k x = refl
-length_set (z ∷ xs) zero x = refl
-length_set (z ∷ xs) (suc k) x = ap suc (length_set xs k x)
+get_set_same xs k x y is = get_same xs k y x is
 
 pub map_got : {A B : Type 0} (f : A → B) (xs : List A) (k : ℕ) (y : B) → slice_get (map f xs) k ≡ Some y → (x : A) × (slice_get xs k ≡ Some x) × (y ≡ f x)
 map_got f [] k y is = absurd (none_some y is)
 map_got f (x ∷ xs) zero y is = (x, refl, sym (some_same (f x) y is))
 map_got f (x ∷ xs) (suc k) y is = map_got f xs k y is
-
-pub map_get : {A B : Type 0} (f : A → B) (xs : List A) (k : ℕ) (x : A) → slice_get xs k ≡ Some x → slice_get (map f xs) k ≡ Some (f x)
-map_get f [] k x is = absurd (none_some x is)
-map_get f (y ∷ xs) zero x is = ap (λ (z : _). Some (f z)) (some_same y x is)
-map_get f (y ∷ xs) (suc k) x is = map_get f xs k x is
-
-pub length_map : {A B : Type 0} (f : A → B) (xs : List A) → length (map f xs) ≡ length xs
-length_map f [] = refl
-length_map f (x ∷ xs) = ap suc (length_map f xs)
 
 pub get_behind : {A : Type 0} (xs : List A) (y : A) (k : ℕ) (x : A) → slice_get (xs ++ y ∷ []) k ≡ Some x → (slice_get xs k ≡ Some x) ⊎ ((k ≡ length xs) × (x ≡ y))
 get_behind [] y zero x is = inr (refl, sym (some_same y x is))

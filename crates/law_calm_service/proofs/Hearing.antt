@@ -21,13 +21,13 @@ use Rattle.tp4_world.specs.Telling.{events_after}
 use Rattle.tp4_world.specs.World.{entity_at}
 use Rattle.law_tp4_associations.specs.Association.{Posted, system_of}
 use Rattle.law_tp4_associations.specs.Laws.{Addressed, Formatted, Handed}
-use Rattle.law_tp4_associations.specs.Handing.{AreProperEnds, Hands}
+use Rattle.law_tp4_associations.specs.Handing.{Hands}
 use Rattle.law_tp4_associations.specs.Standing.{Standing}
 use Rattle.law_calm_run.proofs.Hall.{AreAllProper, Hall, IsReadBy, Meets, after}
 use Rattle.law_calm_run.proofs.Never.{AreNever, awake}
 use Rattle.law_calm_service.proofs.Story.{IsRunning, Story, Tells, address_of}
 use Rattle.law_calm_service.proofs.Meeting.{story_handed}
-use Rattle.law_calm_service.proofs.Queued.{IsFirst, first_posted}
+use Rattle.law_calm_service.proofs.Queued.{IsFirst, first_posted, proper_ends}
 
 or_false : (b : Bool) → (b || false) ≡ b
 or_false true = refl
@@ -60,9 +60,6 @@ module _ (titles : List (List ℕ)) (timers : Timers) (handed : Handed timers (a
 
   told : Tells IsRunning own old.clock old.ends s.all (f.first ∷ f.others) s.number journal
   told = subst (λ (queue : List Posted). Tells IsRunning own old.clock old.ends s.all queue s.number journal) f.queue_is s.tells
-
-  are_proper : AreProperEnds old.entities
-  are_proper system reference end stands = ((proper system stands.0 stands.1).ends reference end stands.2).proper
 
   -- the entity is that of the other side
   system_same : m.system ≡ there_system
@@ -98,7 +95,7 @@ module _ (titles : List (List ℕ)) (timers : Timers) (handed : Handed timers (a
   hands : Hands timers own old.clock old.entities s.all f.first f.others m.entity f.a m.acted
   hands =
       subst (Hands timers own old.clock old.entities s.all f.first f.others m.entity f.a) (sym acted_is)
-      (handed old.clock old.entities s.all f.first f.others m.entity f.a stood are_proper f.at there_is)
+      (handed old.clock old.entities s.all f.first f.others m.entity f.a stood (proper_ends old.entities proper) f.at there_is)
 
   abbrev next : ℕ → Hall
   next system = after (record old { posts = m.rest }) system m.acted

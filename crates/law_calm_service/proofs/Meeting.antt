@@ -29,7 +29,7 @@ use Rattle.law_calm_service.proofs.Acting.{acts_of, aside_of_no_end, ends_same}
 use Rattle.law_calm_service.proofs.Continuing.{map_get, none_some}
 use Rattle.law_calm_service.proofs.Freeing.{free_place, is_freed}
 use Rattle.law_calm_service.proofs.MakingCalled.{tells_begun}
-use Rattle.law_calm_service.proofs.Numbering.{latest_here}
+use Rattle.law_tp4_lawful.proofs.MakesPlaces.{latest_last as latest_here}
 use Rattle.law_calm_service.proofs.NumberingCalled.{with_called}
 use Rattle.law_calm_service.proofs.Pairing.{running_stays}
 use Rattle.law_calm_service.proofs.Passing.{tells_aside}

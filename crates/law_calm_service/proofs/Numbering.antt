@@ -1,18 +1,20 @@
 -- A connect makes an end: it has the next number, and is the latest at its reference, where no other end stands any more. So each end that stands keeps its
 -- number, and its request is the latest of its address and reference.
-use Rattle.std.proofs.Common.{◌≡◌, ◌⊎◌, ◌<◌, ◌≤◌, ℕ, ◌+◌, ◌==◌, Bool, true, false, ◌&&◌, if◌then◌else◌, List, [], ◌∷◌, ◌++◌, length, length-append, map, slice_get, Option, Some, None, refl, sym, ◌∙◌, ap, subst, inl, inr, arith}
+use Rattle.std.proofs.Common.{◌≡◌, ◌⊎◌, ◌<◌, ◌≤◌, ℕ, ◌+◌, ◌==◌, Bool, true, false, if◌then◌else◌, List, [], ◌∷◌, ◌++◌, length, length-append, map, slice_get, Option, Some, None, refl, sym, ◌∙◌, ap, subst, inl, inr, arith}
 use Rattle.std.proofs.lemmas.Bool.{cases_eq}
 use Rattle.std.proofs.lemmas.Bool.Decides.{eqb_tells, nat_tests}
 use Rattle.std.proofs.lemmas.Option.{slice_get_within}
-use Rattle.script_journal.specs.Lawful.{IsLatest}
+use Rattle.script_journal.specs.Partner.{IsLatest}
 use Rattle.script_journal.specs.declared.event.Event.{Event}
 use Rattle.script_journal.specs.declared.event.Event.TheVariants as events
 use Rattle.script_journal.specs.declared.event.Request.{Request}
 use Rattle.tp4_conn.specs.End.{End}
 use Rattle.law_tp4_history.specs.Journals.{MakesNone}
-use Rattle.tp4_world.specs.World.{is_at, latest, latest_from}
+use Rattle.tp4_world.specs.World.{latest}
 use Rattle.tp4_world.specs.declared.place.EndAt.{EndAt}
 use Rattle.law_tp4_associations.specs.Association.{Association, cleared, party, system_of}
+use Rattle.law_tp4_lawful.proofs.MakesPlaces.{latest_last as latest_here}
+pub use Rattle.law_calm_run.proofs.Newest.{latest_elsewhere}
 use Rattle.law_calm_service.proofs.Story.{AreLinked, AreNumbered, IsLatestOf, Numbers}
 use Rattle.law_calm_service.proofs.Continuing.{cleared_continues, get_behind, left_party, length_map, map_got, none_some, numbered_on, some_same}
 use Rattle.law_calm_service.proofs.Partners.{latest_connect, latest_new, partner_connect}
@@ -21,43 +23,13 @@ use Rattle.law_calm_service.proofs.Partners.{latest_connect, latest_new, partner
 abbrev pub with_caller : Numbers → ℕ → ℕ → Numbers
 with_caller number k n j by = if j == k then (if by then Some n else None) else number j by
 
--- ---- the latest end at a reference
-
-latest_last : (next found : ℕ) (ends : List EndAt) (end : EndAt) (system reference : ℕ)
-    → latest_from next found (ends ++ end ∷ []) system reference ≡ (if is_at system reference end then next + length ends else latest_from next found ends system reference)
-latest_last next found [] end system reference = ap (λ (n : ℕ). if is_at system reference end then n else found) (omega arith)
-latest_last next found (one ∷ ends) end system reference =
-    latest_last (next + 1) (if is_at system reference one then next else found) ends end system reference
-    ∙ ap (λ (n : ℕ). if is_at system reference end then n else latest_from (next + 1) (if is_at system reference one then next else found) ends system reference) (omega arith)
+-- ---- numbers
 
 pub same_number : (n : ℕ) → (n == n) ≡ true
 same_number n = grind (arith, nat_tests)
 
 pub other_number : (m n : ℕ) → (m ≡ n → ⊥) → (m == n) ≡ false
 other_number m n apart = elim (eqb_tells m n) [ inl same ↦ absurd (apart same.1) | inr other ↦ other.0 ]
-
--- the new end is the latest at its reference
-pub latest_here : (ends : List EndAt) (system reference : ℕ) → latest (ends ++ record { system = system; reference = reference } ∷ []) system reference ≡ length ends + 1
-latest_here ends system reference =
-    latest_last 1 0 ends (record { system = system; reference = reference }) system reference
-    ∙ (λ i. if same_number system i && same_number reference i then 1 + length ends else latest ends system reference)
-    ∙ omega arith
-
--- elsewhere the latest is as before
-pub latest_elsewhere : (ends : List EndAt) (end : EndAt) (system reference : ℕ) → (system ≡ end.system → reference ≡ end.reference → ⊥) → latest (ends ++ end ∷ []) system reference ≡ latest ends system reference
-latest_elsewhere ends end system reference apart =
-    latest_last 1 0 ends end system reference ∙ ap (λ (b : Bool). if b then 1 + length ends else latest ends system reference) (by (eqb_tells end.system system))
-  where
-    and_false : (b : Bool) → (b && false) ≡ false
-    and_false true = refl
-    and_false false = refl
-
-    by : ((end.system == system) ≡ true) × (end.system ≡ system) ⊎ ((end.system == system) ≡ false) × (end.system ≡ system → ⊥) → is_at system reference end ≡ false
-    by (inl same) =
-        ap (λ (b : Bool). end.system == system && b) (other_number end.reference reference (λ e. apart (sym same.1) (sym e))) ∙ and_false (end.system == system)
-    by (inr other) = ap (λ (b : Bool). b && end.reference == reference) other.0
-
--- ---- numbers
 
 pub number_here : (k : ℕ) (one other : Option ℕ) → (if k == k then one else other) ≡ one
 number_here k one other = ap (λ (b : Bool). if b then one else other) (same_number k)

@@ -3,7 +3,7 @@
 use Rattle.std.proofs.Common.{◌≡◌, ◌⊎◌, ◌<◌, ◌≤◌, ℕ, ◌+◌, ◌==◌, Bool, true, false, if◌then◌else◌, List, [], ◌∷◌, ◌++◌, length, map, slice_get, slice_set, Option, Some, None, refl, sym, ◌∙◌, ap, subst, inl, inr, arith}
 use Rattle.std.proofs.lemmas.Bool.{cases_eq}
 use Rattle.std.proofs.lemmas.Option.{slice_get_within}
-use Rattle.script_journal.specs.Lawful.{IsLatest, Partner}
+use Rattle.script_journal.specs.Partner.{IsLatest, Partner}
 use Rattle.script_journal.specs.declared.event.Event.{Event}
 use Rattle.script_journal.specs.declared.event.Event.TheVariants as events
 use Rattle.script_journal.specs.declared.event.Indication.{Indication}
@@ -13,9 +13,10 @@ use Rattle.law_tp4_history.specs.Journals.{MakesNone}
 use Rattle.tp4_world.specs.World.{latest}
 use Rattle.tp4_world.specs.declared.place.EndAt.{EndAt}
 use Rattle.law_tp4_associations.specs.Association.{Association, cleared, party, system_of}
+use Rattle.law_tp4_lawful.proofs.MakesPlaces.{latest_last as latest_here}
 use Rattle.law_calm_service.proofs.Story.{AreLinked, AreNumbered, IsLatestOf, Numbers}
 use Rattle.law_calm_service.proofs.Continuing.{cleared_continues, get_set_other, get_set_same, left_party, length_map, length_set, map_get, map_got, none_some, numbered_on, some_same}
-use Rattle.law_calm_service.proofs.Numbering.{latest_elsewhere, latest_here, none_at_cleared, number_here, number_there, numbered_elsewhere, one_more}
+use Rattle.law_calm_service.proofs.Numbering.{latest_elsewhere, none_at_cleared, number_here, number_there, numbered_elsewhere, one_more}
 use Rattle.law_calm_service.proofs.Partners.{latest_heard, one_latest, partner_new}
 
 -- the called end of association k has this number

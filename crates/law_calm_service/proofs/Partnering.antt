@@ -1,6 +1,6 @@
 -- Where nothing waits, two ends that are partners by the journal and stand are those of one association; and the pair that went to them says what each
 -- submitted, showed and told, by the journal.
-use Rattle.std.proofs.Common.{◌≡◌, ◌<◌, ℕ, Bool, true, false, List, [], ◌∷◌, length, slice_get, Some, refl, sym, ◌∙◌, ap, subst}
+use Rattle.std.proofs.Common.{◌≡◌, ◌<◌, ℕ, Bool, true, false, List, [], length, slice_get, Some, refl, sym, ◌∙◌, ap, subst}
 use Rattle.script_journal.specs.declared.event.Event.{Event}
 use Rattle.tp4_conn.specs.End.{End}
 use Rattle.tp4_conn.specs.declared.states.InOpened.{InOpened}
@@ -14,19 +14,13 @@ use Rattle.tp4_world.specs.declared.place.EndAt.{EndAt}
 use Rattle.tp4_world.specs.declared.place.Placed.{Placed}
 use Rattle.law_tp4_associations.specs.Association.{Association, Posted, party, waiting}
 use Rattle.law_calm_run.specs.Service.{end_at_number}
-use Rattle.law_calm_run.proofs.Hall.{Hall, Post}
-use Rattle.law_calm_service.proofs.Story.{ArePosts, IsRunning, IsYoung, Story, pair_of}
+use Rattle.law_calm_run.proofs.Hall.{Hall}
+use Rattle.law_calm_service.proofs.Queued.{none_posted}
+use Rattle.law_calm_service.proofs.Story.{IsRunning, IsYoung, Story, pair_of}
 use Rattle.law_calm_service.proofs.Continuing.{some_same}
 use Rattle.law_calm_service.proofs.Placing.{IsWhere, party_of, where_it_stands}
 
 -- ---- pairs
-
-pub none_waits : (all : List Association) (queue : List Posted) → ArePosts all queue [] → queue ≡ []
-none_waits all [] posts = refl
-none_waits all (posted ∷ queue) posts = absurd (never posts.1 posts.3)
-  where
-    never : {x : Post} (rest : List Post) → [] ≡ x ∷ rest → ⊥
-    never rest is = cc is
 
 open_stays : (stage : StateData) (o : InOpened) → stage ≡ Opened o → HasLeft stage → ⊥
 open_stays stage o is left = subst HasLeft is left
@@ -45,7 +39,7 @@ story_has_pairs {C} timers own hall journal world s idle entities ends calling c
     let same : second.0 ≡ first.0 = some_same second.0 first.0 (sym second.1 ∙ first.1) in
     let running = s.tells.pairs h.0 first.0 x y calling called first.1 first.2 (ap (λ (a : Association). a.called) (sym same) ∙ second.2) one two
     (record { calling = open_stays x.stage o x_open; called = open_stays y.stage q y_open; answered = open_answered y.stage q y_open }) in
-    to_pair (subst (λ (l : List Posted). IsRunning journal hall.clock calling called x y (waiting h.0 true l) (waiting h.0 false l)) (none_waits s.all s.queue (subst (ArePosts s.all s.queue) idle s.posts)) running)
+    to_pair (subst (λ (l : List Posted). IsRunning journal hall.clock calling called x y (waiting h.0 true l) (waiting h.0 false l)) (none_posted s.all s.queue hall.posts s.posts idle) running)
   where
     -- the end of that number is the party of its association
     is_party : (k : ℕ) (by : Bool) (n : ℕ) (end : End) → k < length s.all → s.number k by ≡ Some n → IsWhere world.entities world.ends n end → (a : Association) × (slice_get s.all k ≡ Some a) × (party a by ≡ Some end)

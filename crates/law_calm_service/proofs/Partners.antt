@@ -7,7 +7,7 @@ use Rattle.script_journal.specs.declared.event.Event.{Event}
 use Rattle.script_journal.specs.declared.event.Event.TheVariants as events
 use Rattle.script_journal.specs.declared.event.Indication.{Indication}
 use Rattle.script_journal.specs.declared.event.Request.{Request}
-use Rattle.script_journal.specs.Lawful.{IsLatest, Partner}
+use Rattle.script_journal.specs.Partner.{IsLatest, Partner}
 use Rattle.law_tp4_history.specs.Journals.{MakesNone, makes_end}
 
 -- ---- places

@@ -1,11 +1,16 @@
 -- What waits of the associations stays what it was where each association keeps its systems, and what an end sends comes behind it.
 use Rattle.std.proofs.Common.{◌≡◌, ℕ, Bool, true, false, List, [], ◌∷◌, ◌++◌, map, slice_get, slice_set, Option, Some, refl, sym, ◌∙◌, ap, subst, inl, inr}
 use Rattle.std.proofs.lemmas.Bool.{cases_eq}
+use Rattle.script_journal.specs.declared.event.Event.{Event}
 use Rattle.tp4_flow.specs.declared.step.Sent.{Sent}
 use Rattle.tp4_conn.specs.End.{End}
+use Rattle.tp4_conn.specs.declared.timers.Timers.{Timers}
+use Rattle.tp4_world.specs.declared.place.Placed.{Placed}
 use Rattle.law_tp4_associations.specs.Association.{Association, Posted, cleared, post, system_of, with_party}
-use Rattle.law_calm_run.proofs.Hall.{Post, posted}
-use Rattle.law_calm_service.proofs.Story.{ArePosts}
+use Rattle.law_tp4_associations.specs.Handing.{AreProperEnds}
+use Rattle.law_tp4_associations.specs.Standing.{Standing}
+use Rattle.law_calm_run.proofs.Hall.{AreAllProper, Hall, Post, posted}
+use Rattle.law_calm_service.proofs.Story.{ArePosts, IsRunning, Story, Tells}
 use Rattle.law_calm_service.proofs.Continuing.{get_set_other, get_set_same, map_get, some_same, system_same, with_from, with_to}
 
 -- ---- associations that keep their systems
@@ -67,6 +72,23 @@ posts_of all k by system a (sent ∷ tpdus) at from =
 pub none_posted : (all : List Association) (queue : List Posted) (posts : List Post) → ArePosts all queue posts → posts ≡ [] → queue ≡ []
 none_posted all [] posts are none = refl
 none_posted all (one ∷ queue) posts are none = let e : [] ≡ _ = sym none ∙ are.3 in absurd cc
+
+-- so what stands beside the network stands with an empty queue
+pub record IsIdle (timers : Timers) (own : ℕ → List ℕ) (hall : Hall) (journal : List Event) (s : Story timers own hall journal) : Type 0 where
+  pub standing : Standing timers own hall.clock hall.entities s.all []
+  pub tells : Tells IsRunning own hall.clock hall.ends s.all [] s.number journal
+
+pub is_idle : (timers : Timers) (own : ℕ → List ℕ) (hall : Hall) (journal : List Event) (s : Story timers own hall journal) → hall.posts ≡ [] → IsIdle timers own hall journal s
+is_idle timers own hall journal s none =
+    let queue_is : s.queue ≡ [] = none_posted s.all s.queue hall.posts s.posts none in
+    record {
+      standing = subst (Standing timers own hall.clock hall.entities s.all) queue_is s.standing;
+      tells = subst (λ (queue : List Posted). Tells IsRunning own hall.clock hall.ends s.all queue s.number journal) queue_is s.tells;
+    }
+
+-- the ends of entities that are proper are
+pub proper_ends : (placed : List Placed) → AreAllProper placed → AreProperEnds placed
+proper_ends placed all system reference end stands = ((all system stands.0 stands.1).ends reference end stands.2).proper
 
 -- the TPDU that waits first is of an association
 pub record IsFirst (all : List Association) (queue : List Posted) (post : Post) (rest : List Post) : Type 0 where

@@ -77,6 +77,14 @@ waiting_other j k side by [] apart = refl
 waiting_other j k side by (sent ∷ tpdus) apart =
     ap (λ (b : Bool). If b (sent ∷ waiting j side (post k by tpdus)) (waiting j side (post k by tpdus))) (test_first (k == j) (is_same by side) (ne_eqb k j (λ e. apart (sym e)))) ∙ waiting_other j k side by tpdus apart
 
+-- what an end sends comes behind what waits there, and leaves what waits for it
+pub own_behind : (k : ℕ) (by : Bool) (queue : List Posted) (tpdus : List Sent) → waiting k by queue ++ tpdus ≡ waiting k by (queue ++ post k by tpdus)
+own_behind k by queue tpdus = sym (waiting_append k by queue (post k by tpdus) ∙ ap (λ (l : List Sent). waiting k by queue ++ l) (waiting_own k by tpdus))
+
+pub side_behind : (k : ℕ) (by : Bool) (queue : List Posted) (tpdus : List Sent) → waiting k (not by) queue ≡ waiting k (not by) (queue ++ post k by tpdus)
+side_behind k by queue tpdus =
+    sym (waiting_append k (not by) queue (post k by tpdus) ∙ ap (λ (l : List Sent). waiting k (not by) queue ++ l) (waiting_side k by tpdus) ∙ append-nil (waiting k (not by) queue))
+
 pub first_own : (posted : Posted) (rest : List Posted) → waiting posted.of posted.by (posted ∷ rest) ≡ posted.sent ∷ waiting posted.of posted.by rest
 first_own posted rest =
     ap (λ (b : Bool). If b (posted.sent ∷ waiting posted.of posted.by rest) (waiting posted.of posted.by rest))
@@ -144,13 +152,9 @@ module _ (own : ℕ → List ℕ) (now : ℕ) (ends : List EndAt) (all : List As
           (subst (λ (l : List Sent). IsRunning journal now c d x end l (waiting k false (posted ∷ rest))) (first_own posted rest) was) in
           let goes = running_forth journal made now c d x end sent (waiting k true rest) (waiting k false rest) apart before
           (subst (λ (i : ℕ). ActsIn i made [] (shown_in M.events) M.events) d_n acts) in
-          let forth_is : waiting k true rest ≡ waiting k true (rest ++ post k false M.tpdus) =
-          sym (waiting_append k true rest (post k false M.tpdus) ∙ ap (λ (l : List Sent). waiting k true rest ++ l) (waiting_side k false M.tpdus) ∙ append-nil (waiting k true rest)) in
-          let back_is : waiting k false rest ++ M.tpdus ≡ waiting k false (rest ++ post k false M.tpdus) =
-          sym (waiting_append k false rest (post k false M.tpdus) ∙ ap (λ (l : List Sent). waiting k false rest ++ l) (waiting_own k false M.tpdus)) in
           subst (λ (e : End). IsRunning (journal ++ made) now c d x e (waiting k true (rest ++ post k false M.tpdus)) (waiting k false (rest ++ post k false M.tpdus))) y_same
-          (subst (λ (l : List Sent). IsRunning (journal ++ made) now c d x (end_of M) l (waiting k false (rest ++ post k false M.tpdus))) forth_is
-          (subst (λ (l : List Sent). IsRunning (journal ++ made) now c d x (end_of M) (waiting k true rest) l) back_is goes))
+          (subst (λ (l : List Sent). IsRunning (journal ++ made) now c d x (end_of M) l (waiting k false (rest ++ post k false M.tpdus))) (side_behind k false rest M.tpdus)
+          (subst (λ (l : List Sent). IsRunning (journal ++ made) now c d x (end_of M) (waiting k true rest) l) (own_behind k false rest M.tpdus) goes))
 
   -- the calling end takes it
   pub tells_back : Tells IsRunning own now ends all (record { of = k; by = false; sent = sent } ∷ rest) number journal → a.calling ≡ Some end → number k true ≡ Some n
@@ -180,10 +184,6 @@ module _ (own : ℕ → List ℕ) (now : ℕ) (ends : List EndAt) (all : List As
           (subst (λ (l : List Sent). IsRunning journal now c d end y (waiting k true (posted ∷ rest)) l) (first_own posted rest) was) in
           let goes = running_back journal made now c d end y sent (waiting k false rest) (waiting k true rest) apart before
           (subst (λ (i : ℕ). ActsIn i made [] (shown_in M.events) M.events) c_n acts) in
-          let forth_is : waiting k true rest ++ M.tpdus ≡ waiting k true (rest ++ post k true M.tpdus) =
-          sym (waiting_append k true rest (post k true M.tpdus) ∙ ap (λ (l : List Sent). waiting k true rest ++ l) (waiting_own k true M.tpdus)) in
-          let back_is : waiting k false rest ≡ waiting k false (rest ++ post k true M.tpdus) =
-          sym (waiting_append k false rest (post k true M.tpdus) ∙ ap (λ (l : List Sent). waiting k false rest ++ l) (waiting_side k true M.tpdus) ∙ append-nil (waiting k false rest)) in
           subst (λ (e : End). IsRunning (journal ++ made) now c d e y (waiting k true (rest ++ post k true M.tpdus)) (waiting k false (rest ++ post k true M.tpdus))) x_same
-          (subst (λ (l : List Sent). IsRunning (journal ++ made) now c d (end_of M) y l (waiting k false (rest ++ post k true M.tpdus))) forth_is
-          (subst (λ (l : List Sent). IsRunning (journal ++ made) now c d (end_of M) y (waiting k true rest ++ M.tpdus) l) back_is goes))
+          (subst (λ (l : List Sent). IsRunning (journal ++ made) now c d (end_of M) y l (waiting k false (rest ++ post k true M.tpdus))) (own_behind k true rest M.tpdus)
+          (subst (λ (l : List Sent). IsRunning (journal ++ made) now c d (end_of M) y (waiting k true rest ++ M.tpdus) l) (side_behind k true rest M.tpdus) goes))

@@ -1,7 +1,8 @@
 -- What stands beside a calm network: the associations of its ends, the numbers of these ends, and for each two ends of an association of which none has left
 -- a pair that went from the accept to them (X.214, queue model; X.224, class 4: association of TPDUs with connections).
 use Rattle.std.specs.Prelude.{◌≡◌, ◌≤◌, ◌<◌, ℕ, ◌+◌, Bool, true, false, List, [], ◌∷◌, ◌++◌, length, slice_get, Option, Some, None, unwrap_or}
-use Rattle.script_journal.specs.Lawful.{IsLatest, Partner, shown, submitted}
+use Rattle.script_journal.specs.Lawful.{shown, submitted}
+use Rattle.script_journal.specs.Partner.{IsLatest, Partner}
 use Rattle.script_journal.specs.declared.event.Event.{Event}
 use Rattle.script_journal.specs.declared.event.Indication.{Indication}
 use Rattle.script_journal.specs.declared.event.Request.{Request}

@@ -14,16 +14,15 @@ use Rattle.tp4_world.specs.World.{entity_at, latest, with_entity}
 use Rattle.tp4_world.specs.declared.place.EndAt.{EndAt}
 use Rattle.tp4_world.specs.declared.place.Placed.{Placed}
 use Rattle.law_tp4_associations.specs.Association.{Association, Posted, post, with_party}
-use Rattle.law_tp4_associations.specs.Handing.{AreProperEnds}
 use Rattle.law_tp4_associations.specs.Laws.{Ticks as TickLaws}
 use Rattle.law_tp4_associations.specs.Phase.{IsInUse}
 use Rattle.law_tp4_associations.specs.Standing.{IsParty, Standing}
 use Rattle.law_calm_run.proofs.Hall.{AreAllProper, Clocks, Hall, IsOver, Over, Post, TickGoes, TickStep, Ticking, Ticks, TicksDone, TicksMore, after, posted}
-use Rattle.law_calm_service.proofs.Story.{ArePosts, IsClocking, IsRunning, IsYoung, Story, Tells, TickStory}
+use Rattle.law_calm_service.proofs.Story.{ArePosts, IsClocking, IsYoung, Story, Tells, TickStory}
 use Rattle.law_calm_service.proofs.Acting.{acts_of, ends_same}
 use Rattle.law_calm_service.proofs.Clocking.{tells_called_tick, tells_calling_tick, tells_clock, tells_over}
 use Rattle.law_calm_service.proofs.Lasting.{due_first, due_later, kept_held, kept_is, stays_held}
-use Rattle.law_calm_service.proofs.Queued.{none_posted, party_systems, posts_behind, posts_of, posts_still, set_still}
+use Rattle.law_calm_service.proofs.Queued.{IsIdle, is_idle, party_systems, posts_behind, posts_of, posts_still, proper_ends, set_still}
 use Rattle.law_calm_service.proofs.Telling.{ActsIn}
 
 module _ (timers : Timers) (own : ℕ → List ℕ) (IsTicking : ℕ → List Placed → List Association → List Association → List Posted → Type 0) (laws : TickLaws timers own IsTicking) (now : ℕ) where
@@ -37,9 +36,6 @@ module _ (timers : Timers) (own : ℕ → List ℕ) (IsTicking : ℕ → List Pl
       (c : Ticks (record { clock = now + 1; entities = entities; ends = ends; posts = posts }) made new) where
     abbrev old : Hall
     old = record { clock = now + 1; entities = entities; ends = ends; posts = posts }
-
-    are_proper : AreProperEnds entities
-    are_proper system reference end stands = ((proper system stands.0 stands.1).ends reference end stands.2).proper
 
     module _ (k : ℕ) (by : Bool) (end : End) (stands : end_at c.entity c.reference ≡ Some end) (p : IsParty t.all k by c.system c.reference end) where
       abbrev M : Moved
@@ -81,11 +77,11 @@ module _ (timers : Timers) (own : ℕ → List ℕ) (IsTicking : ℕ → List Pl
     tells_ticked k true end stands p =
         tells_calling_tick own (now + 1) ends t.all t.queue t.number journal (lines k true end stands p) k p.a end (latest ends c.system end.base.own) p.is t.tells (is_due_now k true end stands p)
         (place k true end stands p) p.end_is (number_is k true end stands p) (kept_is (M k true end stands p) (due (M k true end stands p).base (M k true end stands p).stage))
-        (due_later (now + 1) end (are_proper c.system c.reference end (c.entity, c.there, stands))) (acts k true end stands p)
+        (due_later (now + 1) end (proper_ends entities proper c.system c.reference end (c.entity, c.there, stands))) (acts k true end stands p)
     tells_ticked k false end stands p =
         tells_called_tick own (now + 1) ends t.all t.queue t.number journal (lines k false end stands p) k p.a end (latest ends c.system end.base.own) p.is t.tells (is_due_now k false end stands p)
         (place k false end stands p) p.end_is (number_is k false end stands p) (kept_is (M k false end stands p) (due (M k false end stands p).base (M k false end stands p).stage))
-        (due_later (now + 1) end (are_proper c.system c.reference end (c.entity, c.there, stands))) (λ r stage. t.tells.uncalling k p.a end r p.is p.end_is stage) (kept_held (now + 1) end)
+        (due_later (now + 1) end (proper_ends entities proper c.system c.reference end (c.entity, c.there, stands))) (λ r stage. t.tells.uncalling k p.a end r p.is p.end_is stage) (kept_held (now + 1) end)
         (acts k false end stands p)
 
     ticked_there : (k : ℕ) (by : Bool) (end : End) (stands : end_at c.entity c.reference ≡ Some end) (p : IsParty t.all k by c.system c.reference end)
@@ -106,7 +102,7 @@ module _ (timers : Timers) (own : ℕ → List ℕ) (IsTicking : ℕ → List Pl
 
     one_ticks : Holds new (journal ++ made)
     one_ticks =
-        let r = laws.one now entities t.before t.all t.queue c.system c.entity c.reference t.ticking are_proper c.there c.due in
+        let r = laws.one now entities t.before t.all t.queue c.system c.entity c.reference t.ticking (proper_ends entities proper) c.there c.due in
         let made_is : made ≡ lines r.0 r.1 r.2 r.3 r.4 =
         c.does.made_is ∙ ap (λ (a : Acted). events_after ends c.system c.entity.own a.events ++ c.does.aside) (acted_is r.0 r.1 r.2 r.3 r.4) in
         subst (λ (h : Hall). Holds h (journal ++ made)) (sym (c.does.becomes ∙ ap (after old c.system) (acted_is r.0 r.1 r.2 r.3 r.4)))
@@ -150,20 +146,11 @@ module _ (timers : Timers) (own : ℕ → List ℕ) (IsTicking : ℕ → List Pl
 
 module _ (timers : Timers) (own : ℕ → List ℕ) (IsTicking : ℕ → List Placed → List Association → List Association → List Posted → Type 0) (laws : TickLaws timers own IsTicking)
     (old new : Hall) (journal made : List JournalEvent) (proper : AreAllProper old.entities) (s : Story timers own old journal) (c : Clocks old made new) where
-  queue_is : s.queue ≡ []
-  queue_is = none_posted s.all s.queue old.posts s.posts c.idle
-
-  stood : Standing timers own old.clock old.entities s.all []
-  stood = subst (Standing timers own old.clock old.entities s.all) queue_is s.standing
-
-  told : Tells IsRunning own old.clock old.ends s.all [] s.number journal
-  told = subst (λ (queue : List Posted). Tells IsRunning own old.clock old.ends s.all queue s.number journal) queue_is s.tells
-
-  are_proper_ends : AreProperEnds old.entities
-  are_proper_ends system reference end stands = ((proper system stands.0 stands.1).ends reference end stands.2).proper
+  idle : IsIdle timers own old journal s
+  idle = is_idle timers own old journal s c.idle
 
   held_on : (k : ℕ) (a : Association) (x y : End) → slice_get s.all k ≡ Some a → a.calling ≡ Some x → a.called ≡ Some y → IsYoung x.stage → IsInUse (old.clock + 1) y
-  held_on k a x y is x_is y_is young = stays_held timers (own a.from.system) (own a.to) old.clock (old.clock + 1) a x y x_is y_is young (stood.each k a is).phase
+  held_on k a x y is x_is y_is young = stays_held timers (own a.from.system) (own a.to) old.clock (old.clock + 1) a x y x_is y_is young (idle.standing.each k a is).phase
 
   begins : TickStory IsTicking own old.clock (record old { clock = old.clock + 1 }) (journal ++ c.front)
   begins = record {
@@ -172,10 +159,10 @@ module _ (timers : Timers) (own : ℕ → List ℕ) (IsTicking : ℕ → List Pl
     all = s.all;
     queue = [];
     number = s.number;
-    ticking = laws.begins old.clock old.entities s.all stood are_proper_ends;
+    ticking = laws.begins old.clock old.entities s.all idle.standing (proper_ends old.entities proper);
     posts = c.idle;
     tells =
-        tells_clock own old.clock old.ends s.all s.number journal c.front told c.aside.ends (λ n. record { gave = (c.aside.units n).0; showed = (c.aside.units n).1 }) held_on;
+        tells_clock own old.clock old.ends s.all s.number journal c.front idle.tells c.aside.ends (λ n. record { gave = (c.aside.units n).0; showed = (c.aside.units n).1 }) held_on;
   }
 
   -- the clock keeps what stands beside the network

@@ -3,11 +3,12 @@
 use Rattle.std.proofs.Common.{◌≡◌, Bool, List, [], ◌∷◌, ◌++◌, Some, None, Option, refl, sym, ◌∙◌, subst}
 use Rattle.osi_base.specs.declared.unit.Up.{Up}
 use Rattle.osi_base.specs.Link.{Link}
-use Rattle.osi_base.specs.Calls.{Call, Offer, Choose, Inject, NextUp, Tick, Chain, Keeps, TakesUp}
+use Rattle.osi_base.specs.Calls.{Call, NextUp, Chain, Keeps, TakesUp}
 use Rattle.osi_base.specs.Gathering.{Gathers, takings}
 use Rattle.osi_base.proofs.Gatherings.{Gathering, gathered, gathering_next}
 use Rattle.osi_base.proofs.Standings.{stands_same}
-use Rattle.law_carrier_answers.specs.Answers.{AlwaysAnswers, AnswersOn, GoesThrough, TakingUp, OneGathering, OneStep, SomeGathering, asked_of}
+use Rattle.law_carrier_answers.specs.Answers.{AlwaysAnswers, AnswersOn, GoesThrough, TakingUp, OneGathering, OneStep, SomeGathering}
+use Rattle.law_carrier_answers.proofs.Answered.{Answers, answered_by}
 
 -- ---- one way
 
@@ -27,29 +28,15 @@ one_gathering {C} {A} link steps once old ups others new next a b =
 
 -- ---- some way
 
--- what is answered to taking up
-record Taken {C A : Type 0} (steps : C → Call A → C → Type 0) (old : C) : Type 0 where
-  answer : Option (Up A)
-  new : C
-  steps_to : steps old (NextUp answer) new
-
-taken_by : {C A : Type 0} (steps : C → Call A → C → Type 0) (old : C) (call : Call A) (new : C) → asked_of call ≡ TakingUp → steps old call new → Taken steps old
-taken_by steps old (Offer unit wish answer) new e s = absurd cc
-taken_by steps old (Choose pick system answer) new e s = absurd cc
-taken_by steps old (Inject lan system octets answer) new e s = absurd cc
-taken_by steps old (NextUp answer) new e s = record { answer = answer; new = new; steps_to = s }
-taken_by steps old Tick new e s = absurd cc
-
 module _ {C A : Type 0} (link : C → Link A) (steps : C → Call A → C → Type 0) (keeps : (old : C) (call : Call A) (new : C) → steps old call new → Keeps (link old) call (link new))
     (is_address : A → Bool) (Stands : C → Type 0) (answers : AlwaysAnswers is_address link steps Stands) where
   -- the rest of what waits, once these were taken up
   abbrev Rest : C → Type 0
   Rest old = (ups : List (Up A)) × (new : C) × Gathers link steps old ups new × Stands new
 
-  took : (mid : C) → Stands mid → Taken steps mid
-  took mid stands =
-      let a = answers.answered mid TakingUp stands tt in
-      taken_by steps mid a.call a.new a.is_asked a.steps_to
+  -- what is answered to taking up
+  took : (mid : C) → Stands mid → (new : C) × Answers steps mid TakingUp new
+  took mid stands = let a = answers.answered mid TakingUp stands tt in (a.new, answered_by steps mid TakingUp a)
 
   -- nothing is left
   last : (old : C) (ups : List (Up A)) (mid : C) → Stands mid → Gathering link steps old ups mid → (link mid).waiting ≡ [] → (answer : Option (Up A)) (new : C)
@@ -79,10 +66,10 @@ module _ {C A : Type 0} (link : C → Link A) (steps : C → Call A → C → Ty
   rest : (left : List (Up A)) → Goes left
   rest [] old ups mid stands so_far waits =
       let t = took mid stands in
-      last old ups mid stands so_far waits t.answer t.new t.steps_to
+      last old ups mid stands so_far waits t.1.0 t.0 t.1.1
   rest (next ∷ left) old ups mid stands so_far waits =
       let t = took mid stands in
-      more left next (rest left) old ups mid stands so_far waits t.answer t.new t.steps_to
+      more left next (rest left) old ups mid stands so_far waits t.1.0 t.0 t.1.1
 
   pub some_gathering : SomeGathering link steps Stands
   some_gathering old stands =

@@ -28,13 +28,14 @@ use Rattle.clnp_segment.specs.declared.store.Joined.TheVariants as joined
 use Rattle.esis_pdu.specs.declared.hello.Hello.{Hello}
 use Rattle.esis_pdu.specs.declared.hello.Hello.TheVariants.{Esh, Ish, Rd}
 use Rattle.esis_tables.specs.Told.{IsKnownRouter, IsRouter, Told, is_among, is_upto, known_hop, known_of, latest, on_lan, or_this, told_of}
-use Rattle.esis_tables.specs.Rows.{IsTable, Rows, count_with, find_row, heard_table, no_rows, router_in, swept_table}
+use Rattle.esis_tables.specs.Rows.{IsTable, Rows, find_row, heard_table, no_rows, router_in, swept_table}
+use Rattle.esis_tables.specs.Room.{count_with}
 use Rattle.esis_tables.specs.Swept.{IsSwept, count_told, names_in}
 use Rattle.esis_tables.proofs.Names.{is_among-append}
 use Rattle.esis_tables.proofs.Standing.{same_routers}
 use Rattle.esis_tables.proofs.Swept.{count_is_told, finds_what_is_told, stays_swept, stays_table}
-use Rattle.clnp_system.specs.declared.aim.Aim.{Aim}
-use Rattle.clnp_system.specs.declared.aim.Aim.TheVariants.{Free, Entry, Forbidden}
+use Rattle.clnp_system.specs.declared.source_routing.Aim.{Aim}
+use Rattle.clnp_system.specs.declared.source_routing.Aim.TheVariants.{Free, Entry, Forbidden}
 use Rattle.clnp_system.specs.declared.setup.Path.{Path}
 use Rattle.clnp_system.specs.declared.verdict.Verdict.{Verdict}
 use Rattle.clnp_system.specs.declared.verdict.Verdict.TheVariants.{Discard, Tell, Take, Join, Onward}
@@ -48,7 +49,8 @@ use Rattle.clnp_system.specs.Sending.{IsDropped, IsSent, Sends, by_hop, first_ho
 use Rattle.clnp_system.specs.Setting.{bound_of, is_own_system, path_of}
 use Rattle.clnp_system.specs.Tables.{heard_rows, rows_tables}
 use Rattle.clnp_system.specs.Ticking.{NodeTicks, ReportsEach, discarded_unit}
-use Rattle.clnp_system.specs.Verdicts.{aim_of, by_aim, for_this, is_titled, to_destination, to_entry, verdict}
+use Rattle.clnp_system.specs.Verdicts.{by_aim, for_this, is_titled, to_destination, to_entry, verdict}
+use Rattle.clnp_system.specs.SourceRouting.{aim_of}
 use Rattle.law_clnp_answers.specs.Hellos.{IsByHellos, StandFor, by_hellos, heard_hellos, hello_tables, hop_by_title, is_router_title, known_router, least_title, lesser, tells_title}
 use Rattle.law_clnp_answers.specs.Laws.{RouterIsTold}
 

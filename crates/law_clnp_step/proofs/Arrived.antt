@@ -17,6 +17,8 @@ use Rattle.osi_base.specs.Link.{Link, AreStrays, IsLawful, IsNote}
 use Rattle.osi_base.specs.Calls.{Call, Choose, Inject, Keeps, Chooses, Injects, Adds, IsSameLink, NothingNew, pair_of}
 use Rattle.osi_base.specs.Gathering.{Stands}
 use Rattle.osi_base.proofs.Chains.{picks_on}
+pub use Rattle.osi_base.proofs.Raisings.{IsRaised, raised_choice, raised_injection}
+use Rattle.osi_base.proofs.Raisings.{strays_none, strays_some}
 use Rattle.osi_base.proofs.Standings.{choice_took, stands_on, takes_on, took_after}
 use Rattle.clnp_system.specs.Node.{Node, Reaction, Frame}
 use Rattle.clnp_system.specs.Receiving.{Receives}
@@ -29,61 +31,6 @@ use Rattle.law_clnp_step.proofs.Handled.{AreHandled, ComesIf, IsKept, handles_ke
 use Rattle.law_clnp_step.proofs.Lists.{all_weaker}
 use Rattle.law_clnp_step.proofs.Received.{IsDrawn, IsFine, received_kept, received_timely}
 use Rattle.law_clnp_step.proofs.Seen.{all_lawful, belongs_same, lawful_no_strays, strays_are}
-
--- what a choice and an injection have alike
-pub record IsRaised (old called : Link Port) : Type 0 where
-  pub same : IsSameLink old called
-  pub clock : called.clock ≡ old.clock
-  pub grows : NothingNew old called
-  pub was_honest : called.honest ≡ true → old.honest ≡ true
-  pub ups : List (Up Port)
-  pub waiting : called.waiting ≡ old.waiting ++ ups
-  pub lawful : called.honest ≡ true → AllByRecursion (IsLawful old) ups
-
-pub raised_choice : (old : Link Port) (pick system : ℕ) (answer : Picked) (called : Link Port) → Chooses old pick system answer called → IsRaised old called
-raised_choice old pick system answer called c = record {
-  same = c.same;
-  clock = c.clock;
-  grows = c.grows;
-  was_honest = λ h. sym c.honest ∙ h;
-  ups = c.ups;
-  waiting = c.adds.waiting;
-  lawful = λ h. recursion_from_All (IsLawful old) c.ups (c.lawful (sym c.honest ∙ h));
-}
-
-notes_lawful : {A : Type 0} (seen : Link A) (ups : List (Up A)) → AllByRecursion IsNote ups → AllByRecursion (IsLawful seen) ups
-notes_lawful seen [] h = tt
-notes_lawful seen (Noted note ∷ ups) h = (tt, notes_lawful seen ups h.1)
-notes_lawful seen (Came arrival ∷ ups) h = absurd h.0
-
-not_taken : (old : Link Port) (answer : Injected) (called : Link Port) → Injects old answer called → called.honest ≡ true → answer ≢ WasInjected
-not_taken old answer called c h is = let e : called.honest ≡ false = c.injected is in cc
-
-pub raised_injection : (old : Link Port) (answer : Injected) (called : Link Port) → Injects old answer called → IsRaised old called
-raised_injection old answer called c = record {
-  same = c.same;
-  clock = c.clock;
-  grows = c.grows;
-  was_honest = λ h. sym (c.honest (not_taken old answer called c h)) ∙ h;
-  ups = c.ups;
-  waiting = c.adds.waiting;
-  lawful = λ h. notes_lawful old c.ups (recursion_from_All IsNote c.ups (c.refused (not_taken old answer called c h)));
-}
-
--- strays, before and after
-strays_none : (after was : Bool) (strays more : ℕ) → after ≡ true → was ≡ true → (if after then 0 else more) ≡ min ((if was then 0 else strays) + 0) 4294967295
-strays_none true true strays more h k = refl
-strays_none true false strays more h k = absurd cc
-strays_none false was strays more h k = absurd cc
-
-strays_some : (after was : Bool) (strays more : ℕ) → after ≡ false → (was ≡ true → strays ≡ 0) → (if after then 0 else counted after strays more) ≡ min ((if was then 0 else strays) + more) 4294967295
-strays_some true was strays more h k = absurd cc
-strays_some false true strays more h k = ap (λ (n : ℕ). min (n + more) 4294967295) (k refl)
-strays_some false false strays more h k = refl
-
-strays_kept : (after : Bool) (strays more : ℕ) → after ≡ true → strays ≡ 0 → counted after strays more ≡ 0
-strays_kept true strays more h k = k
-strays_kept false strays more h k = absurd cc
 
 pub peopled_same : (bound other : Port → ℕ) (life : ℕ) (settings : List Setting) → ((to : Port) → other to ≡ bound to) → IsPeopled bound life settings → IsPeopled other life settings
 peopled_same bound other life settings same p = record {
@@ -187,7 +134,7 @@ module _ {C N : Type 0} (link : C → Link Port) (steps : C → Call Port → C 
             timely = timely_same now (link a.below).clock a.nodes below_clock handled.nodes;
             past = subst (λ (n : ℕ). AllByRecursion (λ entry. entry.0 ≤ n) old.floating.entries) (sym below_clock) sound.steady.past;
             young = subst (λ (n : ℕ). AllByRecursion (λ entry. n ≤ entry.0 + old.life) old.floating.entries) (sym below_clock) sound.steady.young;
-            none = λ h. strays_kept (link a.below).honest old.strays (strays_in old.floating.entries a.told) h (sound.steady.none (was_honest h));
+            none = λ h. ap (λ (b : Bool). counted b old.strays (strays_in old.floating.entries a.told)) h ∙ sound.steady.none (was_honest h);
           };
           traced = λ h. let t = sound.traced (was_honest h) in (t.0, traced_after h t.0 t.1);
         })
@@ -211,7 +158,8 @@ module _ {C N : Type 0} (link : C → Link Port) (steps : C → Call Port → C 
             by_honest false h = record {
               strays_among = strays_in old.floating.entries a.told;
               are_strays = strays_are link old sound.steady.young a.told;
-              strays = strays_some (link a.below).honest (link old.link).honest old.strays (strays_in old.floating.entries a.told) h sound.steady.none;
+              strays = strays_some (link a.below).honest (link old.link).honest old.strays (strays_in old.floating.entries a.told) _ h sound.steady.none
+                  (ap (λ (b : Bool). counted b old.strays (strays_in old.floating.entries a.told)) h);
               waiting = refl;
             }
 

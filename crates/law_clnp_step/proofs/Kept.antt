@@ -5,13 +5,13 @@ use Rattle.nsap.specs.declared.port.Port.{Port}
 use Rattle.osi_base.specs.declared.unit.Up.{Up}
 use Rattle.osi_base.specs.Link.{Link, IsGiven}
 use Rattle.osi_base.specs.Calls.{Call, Offer, Choose, Inject, NextUp, Tick, Keeps, TakesUp}
-use Rattle.osi_base.proofs.Standings.{took_same}
+use Rattle.osi_base.proofs.Raisings.{raised_choice, raised_injection, takes_up}
 use Rattle.clnp_system.specs.Node.{Node, Frame}
 use Rattle.clnp_system.specs.Tables.{Tables}
 use Rattle.law_clnp_step.specs.Network.{Network, net_link}
 use Rattle.law_clnp_step.specs.Sound.{IsCarried, IsHeldFor, IsNew, IsPeopled, IsSound, IsTimely, Knows, settings_of}
 use Rattle.law_clnp_step.specs.Step.{Begins, NetStep, NetTakesUp}
-use Rattle.law_clnp_step.proofs.Arrived.{arrives_soundly, choice_keeps, injection_keeps, peopled_same, raised_choice, raised_injection}
+use Rattle.law_clnp_step.proofs.Arrived.{arrives_soundly, choice_keeps, injection_keeps, peopled_same}
 use Rattle.law_clnp_step.proofs.Lists.{all_weaker}
 use Rattle.law_clnp_step.proofs.Offered.{offer_keeps}
 use Rattle.law_clnp_step.proofs.Passed.{all_ticked, all_ticked_honestly, tick_keeps, tick_soundly}
@@ -21,19 +21,7 @@ module _ {C N : Type 0} (link : C → Link Port) (steps : C → Call Port → C 
   where
     takes_keeps : (old : Network C N) (answer : Option (Up (List ℕ))) (new : Network C N) → NetTakesUp link steps tables old answer new → TakesUp (net_link link old) answer (net_link link new)
     takes_keeps old answer new t =
-        subst (λ (n : Network C N). TakesUp (net_link link old) answer (net_link link n)) (sym t.becomes) (record {
-          same = record { bound = λ to. refl; room = λ to. refl; belongs = λ to system. refl };
-          clock = refl;
-          honest = refl;
-          strays = refl;
-          grows = λ entry h. h;
-          lost = λ entry h live. h;
-          waiting = t.waiting;
-          none = t.none;
-          takes = λ pick system is. is;
-          picks = record { given = omega arith; again = λ pick system is. inl is };
-          took = λ pick system is. took_same ((link old.link).takes pick system) ((link old.link).took pick system) is;
-        })
+        subst (λ (n : Network C N). TakesUp (net_link link old) answer (net_link link n)) (sym t.becomes) (takes_up (net_link link old) new.waiting answer t.waiting t.none)
 
     pub net_keeps : (old : Network C N) (call : Call (List ℕ)) (new : Network C N) → NetStep link steps tables old call new → Keeps (net_link link old) call (net_link link new)
     net_keeps old (Offer unit wish answer) new s = (offer_keeps link steps law tables old unit wish answer new s.0 s.1).0

@@ -3,6 +3,7 @@ use Rattle.std.proofs.Common.{◌≡◌, ◌⊎◌, ◌==◌, ◌&&◌, ◌||◌
 use Rattle.std.specs.Prelude.{IsTrue}
 use Rattle.std.specs.List.{All, AllByRecursion, Contains, list_any}
 use Rattle.std.specs.Cmp.Lexicographic.{pointwise}
+use Rattle.std.proofs.lemmas.Bool.{and_from}
 use Rattle.std.proofs.lemmas.List.Elements.{All-from_recursion}
 use Rattle.nsap.specs.declared.port.Port.{Port}
 use Rattle.osi_base.specs.declared.unit.Unit.{Unit as CarriedUnit}
@@ -10,6 +11,7 @@ use Rattle.osi_base.specs.declared.unit.Up.{Up}
 use Rattle.osi_base.specs.declared.unit.Up.TheVariants.{Unit as Came, Note as Noted}
 use Rattle.osi_base.specs.Floated.{is_unit_of}
 use Rattle.osi_base.specs.Link.{Link, AreStrays, IsAfloat, IsLawful}
+use Rattle.osi_base.proofs.Entries.{is_unit, own_unit}
 use Rattle.clnp_system.specs.Node.{Node}
 use Rattle.clnp_system.specs.Setting.{Setting, is_own_system}
 use Rattle.law_clnp_step.specs.Network.{Network, is_end_of, net_link}
@@ -39,30 +41,7 @@ found_true test x (y ∷ ys) (inr h) e = or_last (test y) (list_any test ys) (fo
     or_last true b h = refl
     or_last false b h = h
 
-three_true : (a b c : Bool) → a ≡ true → b ≡ true → c ≡ true → (a && b && c) ≡ true
-three_true a b c h k l = cc
-
 -- ---- units afloat
-
-same_numbers : (xs : List ℕ) → pointwise nat_eq xs xs ≡ true
-same_numbers [] = refl
-same_numbers (x ∷ xs) = grind (arith, same_numbers xs)
-
-three_parts : (a b c : Bool) → (a && b && c) ≡ true → (a ≡ true) × (b ≡ true) × (c ≡ true)
-three_parts true true c h = (refl, refl, h)
-three_parts true false c h = absurd cc
-three_parts false b c h = absurd cc
-
-is_unit : (unit : CarriedUnit (List ℕ)) (entry : ℕ × CarriedUnit (List ℕ)) → is_unit_of (pointwise nat_eq) unit entry ≡ true → entry.1 ≡ unit
-is_unit unit entry h =
-    let p = three_parts (pointwise nat_eq entry.1.from unit.from) (pointwise nat_eq entry.1.to unit.to) (pointwise nat_eq entry.1.octets unit.octets) h in
-    let from : entry.1.from ≡ unit.from = Rattle.clnp_segment.proofs.Units.same_numbers entry.1.from unit.from p.0 in
-    let to : entry.1.to ≡ unit.to = Rattle.clnp_segment.proofs.Units.same_numbers entry.1.to unit.to p.1 in
-    let octets : entry.1.octets ≡ unit.octets = Rattle.clnp_segment.proofs.Units.same_numbers entry.1.octets unit.octets p.2 in
-    λ i. record { from = from i; to = to i; octets = octets i }
-
-own_unit : (unit : CarriedUnit (List ℕ)) (tick : ℕ) → is_unit_of (pointwise nat_eq) unit (tick, unit) ≡ true
-own_unit unit tick = three_true _ _ _ (same_numbers unit.from) (same_numbers unit.to) (same_numbers unit.octets)
 
 -- the entry of that unit, where one is found
 entry_found : (unit : CarriedUnit (List ℕ)) (entries : List (ℕ × CarriedUnit (List ℕ))) → list_any (is_unit_of (pointwise nat_eq) unit) entries ≡ true
@@ -114,7 +93,7 @@ module _ {C N : Type 0} (link : C → Link Port) (net : Network C N)
         let belongs : list_any (is_end_of arrival.unit.to arrival.system) net.nodes ≡ true =
         by_settings arrival.unit.to arrival.system net.nodes
         ∙ found_true (is_end_setting arrival.unit.to arrival.system) h.setting (settings_of net.nodes) h.stands
-        (three_true _ _ _ (same_system h.setting.system arrival.system h.system) h.end h.own) in
+        (and_from _ _ (and_from _ _ (same_system h.setting.system arrival.system h.system) h.end) h.own) in
         (subst (IsAfloat (net_link link net)) (sym h.unit_is) (afloat h.origin.tick h.origin.unit there), belongs)
       where
         same_system : (one other : ℕ) → one ≡ other → (one == other) ≡ true

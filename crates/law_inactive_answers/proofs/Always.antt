@@ -17,7 +17,8 @@ use Rattle.lan_bag.specs.Bag.{Bag, BagStep, link_of, new_bag}
 use Rattle.lan_bag.specs.steps.Keeping.{bag_keeps}
 use Rattle.inactive_step.specs.declared.row.InactiveRow.{InactiveRow}
 use Rattle.inactive_step.specs.declared.row.Way.{Way}
-use Rattle.inactive_step.specs.Frames.{frame_on, read_up, read_ups, unit_between, unit_in, way_from}
+use Rattle.inactive_step.specs.Frames.{frame_on, read_up, read_ups, unit_between, unit_in}
+use Rattle.inactive_step.specs.Way.{way_from}
 use Rattle.inactive_step.specs.Network.{Inactive, inactive_link}
 use Rattle.inactive_step.specs.Rows.{longest, row_on}
 use Rattle.inactive_step.specs.Step.{InactiveArrives, InactiveStep, Long, NoWay, Sent, counted, floated, plain_wish, strays_in}

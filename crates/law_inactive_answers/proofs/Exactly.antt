@@ -7,11 +7,12 @@ use Rattle.osi_base.specs.declared.unit.Offered.{Offered}
 use Rattle.osi_base.specs.declared.unit.Offered.TheVariants.{Taken as WasTaken, Dropped}
 use Rattle.osi_base.specs.declared.unit.Unit.{Unit as CarriedUnit}
 use Rattle.lan_bag.specs.Bag.{Bag, BagStep, link_of}
-use Rattle.lan_bag.specs.Frames.{offered}
+use Rattle.lan_bag.specs.Offers.{offered}
 use Rattle.lan_bag.specs.Rows.{room_on, sender_of}
 use Rattle.inactive_step.specs.declared.row.InactiveRow.{InactiveRow}
 use Rattle.inactive_step.specs.declared.row.Way.{Way}
-use Rattle.inactive_step.specs.Frames.{are_two_on_one_lan, frame_on, way_between, way_from}
+use Rattle.inactive_step.specs.Frames.{frame_on}
+use Rattle.inactive_step.specs.Way.{are_two_on_one_lan, way_between, way_from}
 use Rattle.inactive_step.specs.Network.{Inactive}
 use Rattle.inactive_step.specs.Rows.{IsPromised, row_at}
 use Rattle.inactive_step.specs.Sound.{IsSound}

@@ -14,7 +14,8 @@ use Rattle.law_carrier_answers.specs.Answers.{OneStep, asked_of}
 use Rattle.law_carrier_answers.proofs.Gatherings.{one_gathering}
 use Rattle.lan_bag.specs.Bag.{BagStep, link_of}
 use Rattle.inactive_step.specs.declared.row.Way.{Way}
-use Rattle.inactive_step.specs.Frames.{frame_on, read_ups, way_from}
+use Rattle.inactive_step.specs.Frames.{frame_on, read_ups}
+use Rattle.inactive_step.specs.Way.{way_from}
 use Rattle.inactive_step.specs.Network.{Inactive}
 use Rattle.inactive_step.specs.Rows.{longest}
 use Rattle.inactive_step.specs.Step.{Brings, InactiveArrives, InactiveOffers, InactiveStep, InactiveTakesUp, InactiveTicks, Long, NoWay, Sent, counted, floated, plain_wish, strays_in}

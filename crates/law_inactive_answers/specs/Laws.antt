@@ -13,7 +13,7 @@ use Rattle.lan_bag.specs.Bag.{Bag, BagStep, link_of, new_bag}
 use Rattle.lan_bag.specs.declared.setup.Lan.{Lan}
 use Rattle.lan_bag.specs.declared.setup.PortRow.{PortRow}
 use Rattle.inactive_step.specs.declared.row.InactiveRow.{InactiveRow}
-use Rattle.inactive_step.specs.Frames.{way_from}
+use Rattle.inactive_step.specs.Way.{way_from}
 use Rattle.inactive_step.specs.Network.{Inactive, inactive_link, new_inactive}
 use Rattle.inactive_step.specs.Rows.{AreServed}
 use Rattle.inactive_step.specs.Step.{InactiveStep}

@@ -6,7 +6,7 @@ use Rattle.osi_base.specs.declared.unit.Offered.{Offered}
 use Rattle.osi_base.specs.declared.unit.Offered.TheVariants.{Taken as WasTaken, Dropped}
 use Rattle.osi_base.specs.declared.unit.Unit.{Unit as CarriedUnit}
 use Rattle.lan_bag.specs.Bag.{Bag}
-use Rattle.lan_bag.specs.Frames.{live_count}
+use Rattle.lan_bag.specs.Offers.{live_count}
 use Rattle.lan_bag.specs.Rows.{sender_of}
 use Rattle.lan_bag.specs.declared.setup.PortRow.{PortRow}
 use Rattle.inactive_step.specs.declared.row.InactiveRow.{InactiveRow}

@@ -12,7 +12,6 @@ pub mod Starting
 pub mod State
 pub mod Telling
 pub mod TickRows
-pub mod Ticking
 pub mod Trying
 pub mod Walking
 pub mod Wired

@@ -6,7 +6,7 @@ use Rattle.std.specs.Cmp.Lexicographic.{bytes_decides, pointwise}
 use Rattle.std.proofs.lemmas.Bool.{eq-eqb}
 use Rattle.osi_base.specs.Calls.{Call}
 use Rattle.osi_base.specs.Link.{Link}
-use Rattle.script_journal.specs.Lawful.{ArePartners}
+use Rattle.script_journal.specs.Partner.{ArePartners}
 use Rattle.script_journal.specs.declared.event.Event.{Event}
 use Rattle.script_lines.specs.declared.line.Line.{Line}
 use Rattle.tp4_number.specs.Number.{whole}

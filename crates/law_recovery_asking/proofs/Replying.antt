@@ -7,7 +7,7 @@ use Rattle.tpdu.specs.declared.service.Options.{Options}
 use Rattle.tp4_number.specs.Number.{whole}
 use Rattle.tp4_number.proofs.Past.{if_kept}
 use Rattle.tp4_flow.specs.declared.step.Sent.{Sent}
-use Rattle.tp4_sending.specs.FlowSender.{at as sender_at}
+use Rattle.tp4_sending.specs.SendingHalf.{at as sender_at}
 use Rattle.tp4_conn.specs.Agreeing.{confirm, confirms_again}
 use Rattle.tp4_conn.specs.AkWait.{ak_wait_tick}
 use Rattle.tp4_conn.specs.Calls.{call_refusal}
@@ -57,10 +57,7 @@ pub call_replies : (now : ℕ) (b : EndRecord) (since : ℕ) (call : UserCall) (
 unfolding user_wait_accept user_wait_refuse
 call_replies now b since (asks.Accept asked octets) from N own called may = record { sent = _; is = refl; reply = confirms (now_at now b) from N own called _ octets }
 call_replies now b since (asks.Refuse octets) from N own called may = record { sent = _; is = refl; reply = declines (now_at now b) from N own called octets }
-call_replies now b since (asks.Normal octets) from N own called may = absurd (cc may)
-call_replies now b since (asks.Urgent octets) from N own called may = absurd (cc may)
-call_replies now b since (asks.Window credit) from N own called may = absurd (cc may)
-call_replies now b since (asks.Disconnect octets) from N own called may = absurd (cc may)
+call_replies now b since other from N own called may = absurd (cc may)
 
 -- as its time is over
 pub tick_replies : (now : ℕ) (b : EndRecord) (since : ℕ) (from : List ℕ) (N : Type 0) (own : ℕ) → is_called_by b from own ≡ true → is_due now (Some (record { base = b; stage = UserWait since })) ≡ true
@@ -86,9 +83,7 @@ ak_wait_call now b w (asks.Disconnect octets) from N own called shut may = Parti
   is = refl;
   reply = record { to = (for_caller b from own called).0; target = ap (λ (n : ℕ). Some n) (for_caller b from own called).1; answer = refl; summed = refl; named = inl refl };
 })
-ak_wait_call now b w (asks.Accept asked octets) from N own called shut may = absurd (cc may)
-ak_wait_call now b w (asks.Refuse octets) from N own called shut may = absurd (cc may)
-ak_wait_call now b w (asks.Window credit) from N own called shut may = absurd (cc may)
+ak_wait_call now b w other from N own called shut may = absurd (cc may)
 
 -- as it is due: its CC again, or its sendings are over
 pub ak_wait_due : (now : ℕ) (b : EndRecord) (w : InAkWait) (options : Options) (from : List ℕ) (N : Type 0) (own : ℕ) → is_called_by b from own ≡ true → b.agreed ≡ Some options

@@ -1,10 +1,9 @@
 -- A row of an end, by its user or its timers: it is the end that asked, or one that it called and that was not answered, or neither sees anything of it.
-use Rattle.std.proofs.Common.{◌≡◌, ◌≢◌, ◌⊎◌, inl, inr, ℕ, ◌+◌, ◌==◌, Bool, true, false, List, [], ◌∷◌, ◌++◌, Option, Some, None, refl, sym, ◌∙◌, ap, subst}
+use Rattle.std.proofs.Common.{◌≡◌, ◌⊎◌, inl, inr, ℕ, ◌==◌, Bool, true, false, List, [], ◌∷◌, ◌++◌, Option, Some, None, refl, sym, ◌∙◌, ap, subst}
 use Rattle.std.specs.Prelude.{◌&&◌, nat_eq}
-use Rattle.std.specs.List.{AllByRecursion}
 use Rattle.std.specs.Cmp.Lexicographic.{bytes_decides, pointwise}
-use Rattle.std.proofs.lemmas.Bool.{eq-eqb, eqb-true}
-use Rattle.std.proofs.lemmas.Option.{none-some, same_Some}
+use Rattle.std.proofs.lemmas.Bool.{eqb-true}
+use Rattle.std.proofs.lemmas.Option.{same_Some}
 use Rattle.osi_base.specs.Link.{Link}
 use Rattle.script_journal.specs.declared.event.Event.{Event as JournalEvent}
 use Rattle.tp4_number.specs.Number.{whole}
@@ -23,12 +22,8 @@ use Rattle.tp4_entity.specs.Entity.{Entity, at, end_at, with_end}
 use Rattle.tp4_entity.proofs.Standings.{within}
 use Rattle.law_tp4_associations.specs.Phase.{IsAsking}
 use Rattle.law_tp4_associations.proofs.Keeping.{IsSame, row_keeps, row_partner}
-use Rattle.law_tp4_history.specs.Ends.{Birth}
-use Rattle.law_tp4_history.specs.History.{IsPartner}
 use Rattle.law_tp4_history.specs.Tracks.{Whole}
-use Rattle.law_tp4_history.proofs.Sound.{partner_address}
-use Rattle.law_tp4_moves.specs.Moves.{HasSource, IsSeenIn, IsSourced, Sees, stop_of, times_of}
-use Rattle.law_tp4_moves.specs.Seen.{seen}
+use Rattle.law_tp4_moves.specs.Moves.{IsSourced, stop_of}
 use Rattle.tp4_world.specs.Telling.{ends_after}
 use Rattle.tp4_world.specs.World.{World, entity_at, latest, with_entity}
 use Rattle.tp4_world.specs.declared.place.EndAt.{EndAt}
@@ -36,33 +31,17 @@ use Rattle.law_tp4_lawful.proofs.Known.{IsKnown, IsThere}
 use Rattle.law_tp4_lawful.proofs.MakesPlaces.{at_other, at_same}
 use Rattle.law_tp4_lawful.proofs.Worlds.{Explains}
 use Rattle.law_calm_run.proofs.Hall.{Post, posted}
-use Rattle.law_recovery_run.specs.Aside.{IsSentTo, Names}
-use Rattle.law_recovery_run.specs.Rivals.{IsFor, IsGoing}
 use Rattle.law_recovery_run.proofs.Aiming.{Going}
 use Rattle.law_recovery_run.proofs.Aside.{both_are}
-use Rattle.law_recovery_run.proofs.Rivals.{far, here, partner_there, sound}
-use Rattle.law_recovery_walk.proofs.Naming.{NamedBy, row_aims, row_named, row_sourced}
+use Rattle.law_recovery_walk.proofs.Naming.{NamedBy}
 use Rattle.law_recovery_walk.proofs.Waiting.{posted_each}
 use Rattle.law_recovery_request.specs.Requesting.{IsUnanswered, in_cr_wait}
-use Rattle.law_recovery_request.proofs.Coming.{IsHere, IsPending, IsWaiting}
-use Rattle.law_recovery_request.proofs.Keeping.{IsKeptApart}
+use Rattle.law_recovery_request.proofs.Coming.{IsHere, IsPending, IsWaiting, seen_calls}
+use Rattle.law_recovery_request.proofs.Keeping.{IsKeptApart, asking_known, row_apart}
+pub use Rattle.law_recovery_request.proofs.Keeping.{both_of, where_so}
 use Rattle.law_recovery_script.proofs.Outlasting.{row_stays}
 use Rattle.law_recovery_asking.proofs.Beside.{Changes, bare_on, changed_there, here_on, replied_on, still_pending}
 use Rattle.law_recovery_asking.proofs.State.{AreApart, IsBare, IsReplied, IsReply}
-
--- a calling end is no called one
-seen_calls : (birth : Birth) (took last : ℕ) (b : EndRecord) (stage : StateData) → IsSeenIn birth took last b stage → IsAsking stage → b.is_called ≡ false
-seen_calls birth took last b (stages.CrWait w) seen asking = seen.calls
-seen_calls birth took last b (stages.WaitBeforeClose w) seen asking = seen.calls
-seen_calls birth took last b stage seen asking = absurd asking
-
-pub both_of : (P Q R : Sent → Type 0) (sents : List Sent) → ((sent : Sent) → P sent → Q sent → R sent) → AllByRecursion P sents → AllByRecursion Q sents → AllByRecursion R sents
-both_of P Q R [] f ps qs = tt
-both_of P Q R (sent ∷ sents) f ps qs = (f sent ps.0 qs.0, both_of P Q R sents f ps.1 qs.1)
-
-pub where_so : (W : Type 0) (Q : Sent → Type 0) (sents : List Sent) → (W → AllByRecursion Q sents) → AllByRecursion (λ (sent : Sent). W → Q sent) sents
-where_so W Q [] all = tt
-where_so W Q (sent ∷ sents) all = ((λ v. (all v).0), where_so W Q sents (λ v. (all v).1))
 
 -- what an end is for a caller no row changes, unless it is a caller itself
 called_still : (now : ℕ) (o : End) (event : Event) (from : List ℕ) (own : ℕ) → (IsAsking o.stage → o.base.is_called ≡ false) → is_called_by (stepped whole now o event).base from own ≡ true
@@ -143,60 +122,17 @@ module _ {C : Type 0} (link : C → Link (List ℕ)) (titles : List (List ℕ)) 
   calls_of : IsAsking o.stage → o.base.is_called ≡ false
   calls_of = seen_calls (w.base.end known.k).birth (w.base.end known.k).took (w.base.end known.k).latest o.base o.stage known.sees.state
 
-  sees : Sees (times_of o.base.timers) now (w.base.end known.k) o
-  sees = subst (λ (n : ℕ). Sees (times_of o.base.timers) n (w.base.end known.k) o) (sym explains.carries.clock) known.sees
-
   -- ---- the end that asked
 
   module _ (x system : ℕ) (from : List ℕ) (N : Type 0) (b : EndRecord) (r : InCrWait) (h : IsHere system x from N b r old) where
-    abbrev asking : End
-    asking = in_cr_wait b r
-
-    abbrev theirs : IsGoing old x
-    theirs = record { system = system; reference = b.own; entity = h.entity; end = asking; is_end = record { there = h.there; stands = h.stands; number = h.number }; goes = refl }
-
-    abbrev k : (is : IsKnown w h.entity.own b.own asking) × (is.k + 1 ≡ x)
-    k = far link titles timers w journal old explains x theirs
-
-    some : b.own ≢ 0
-    some none = none-some asking (ap (end_at h.entity) (sym none) ∙ h.stands)
-
     pub calls : b.is_called ≡ false
-    calls = k.0.sees.state.calls
+    calls = (asking_known link titles timers w journal old explains going system x from N b r h).0.sees.state.calls
 
     -- it is the one
-    pub is_it : s ≡ system → reference ≡ b.own → o ≡ asking
+    pub is_it : s ≡ system → reference ≡ b.own → o ≡ in_cr_wait b r
     is_it at_it same =
         let owner : entity ≡ h.entity = same_Some entity h.entity (sym there ∙ ap (entity_at old.entities) at_it ∙ h.there) in
-        same_Some o asking (sym stands ∙ (λ i. end_at (owner i) (same i)) ∙ h.stands)
-
-    -- an end that is for it was called by it
-    for_it : stop_of o.stage ≡ None → o.base.to ≡ from → o.base.partner ≡ b.own → (entity.own ≡ b.to) × (is_called_by o.base from b.own ≡ true)
-    for_it goes to partner_is = by (partner_there link titles timers w journal old explains z x theirs rival)
-      where
-        z : ℕ
-        z = latest old.ends s reference
-
-        rival : IsFor old z h.entity.own b.own
-        rival = record {
-          going = record { system = s; reference = reference; entity = entity; end = o; is_end = record { there = there; stands = stands; number = refl }; goes = goes };
-          to_is = to ∙ sym h.own_is;
-          partner_is = partner_is;
-        }
-
-        other : (q : IsKnown w entity.own reference o) × (q.k + 1 ≡ z)
-        other = here link titles timers w journal old explains z x theirs rival
-
-        two : false ≡ true → ⊥
-        two f = cc f
-
-        by : IsPartner w.base (here link titles timers w journal old explains z x theirs rival).0.k (far link titles timers w journal old explains x theirs).0.k → (entity.own ≡ b.to) × (is_called_by o.base from b.own ≡ true)
-        by (inl c) = absurd (two (sym k.0.sees.state.calls ∙ sym k.0.sees.is_called ∙ c.called))
-        by (inr c) =
-            let called : o.base.is_called ≡ true = sym other.0.sees.is_called ∙ c.called in
-            let address : entity.own ≡ b.to = sym other.0.at.address ∙ sym (partner_address (times_of timers) w.base (sound link titles timers w journal old explains) k.0.k other.0.k (inl c)) ∙ k.0.sees.partner in
-            let to_true : pointwise nat_eq o.base.to from ≡ true = (bytes_decides o.base.to from).1 to in
-            (address, λ i. called i && (to_true i && eq-eqb o.base.partner b.own partner_is i))
+        same_Some o (in_cr_wait b r) (sym stands ∙ (λ i. end_at (owner i) (same i)) ∙ h.stands)
 
     -- it called the end, or not
     abbrev pub IsCalled : Type 0
@@ -228,22 +164,7 @@ module _ {C : Type 0} (link : C → Link (List ℕ)) (titles : List (List ℕ)) 
       -- what it sends is not for that end, nor in its name
       pub apart_posts : stop_of o.stage ≡ None → IsFit o event → IsSourced 0 event → IsProperEvent o event → (NamedBy event b.own → ⊥) → AreApart system from N b r (posted s m.tpdus)
       apart_posts goes fit sourced may unnamed = posted_each (IsKeptApart system from N b r) s m.tpdus
-          (both_of (λ (sent : Sent). IsSentTo from b.own sent → ⊥) (λ (sent : Sent). (s ≡ system → Names b.own sent.tpdu → ⊥) × HasSource (seen 0 sent.tpdu))
-          (λ (sent : Sent). IsKeptApart system from N b r (record { system = s; sent = sent })) m.tpdus
-          (λ sent none more. record { refused = λ to_it. absurd (none to_it); named = λ at_it names. absurd (more.0 at_it names); sourced = more.1 })
-          (row_aims going now (times_of o.base.timers) (w.base.end known.k) o event sees stop fit sourced known.proper may from b.own bad)
-          (both_of (λ (sent : Sent). s ≡ system → Names b.own sent.tpdu → ⊥) (λ (sent : Sent). HasSource (seen 0 sent.tpdu))
-          (λ (sent : Sent). (s ≡ system → Names b.own sent.tpdu → ⊥) × HasSource (seen 0 sent.tpdu)) m.tpdus (λ sent one more. (one, more))
-          (where_so (s ≡ system) (λ (sent : Sent). Names b.own sent.tpdu → ⊥) m.tpdus
-          (λ at_it. row_named going now (times_of o.base.timers) (w.base.end known.k) o event sees stop fit sourced known.proper may b.own some (λ same. apart at_it (sym known.at.reference_is ∙ same))))
-          (row_sourced going now (times_of o.base.timers) (w.base.end known.k) o event sees stop fit sourced known.proper may ((sound link titles timers w journal old explains).own known.k known.at.low).some)))
-        where
-          stop : (w.base.end known.k).stop ≡ None
-          stop = known.sees.stop ∙ goes
-
-          bad : o.base.to ≡ from → (o.base.partner ≡ b.own) ⊎ NamedBy event b.own → ⊥
-          bad to (inl partner) = other (for_it goes to partner)
-          bad to (inr named) = unnamed named
+          (row_apart link titles timers w journal old explains going system x from N b r h s entity there reference o stands event apart other goes fit sourced may (λ to. unnamed))
 
       -- it sees nothing of it
       pub row_bare : (posts : List Post) → AreApart system from N b r (posted s m.tpdus) → IsBare link x system from N b r old posts → IsBare link x system from N b r new (posts ++ posted s m.tpdus)

@@ -13,7 +13,7 @@ use Rattle.tp4_conn.specs.End.{IsTimed}
 use Rattle.tp4_conn.specs.declared.end_record.EndRecord.{EndRecord}
 use Rattle.tp4_conn.specs.declared.states.InCrWait.{InCrWait}
 use Rattle.tp4_conn.specs.declared.timers.Timers.{Timers}
-use Rattle.tp4_entity.specs.References.{is_silent}
+use Rattle.tp4_entity.specs.Silence.{is_silent}
 use Rattle.law_tp4_pair.specs.Claim.{IsUndropped}
 use Rattle.law_tp4_proper.specs.Rest.{AreProper}
 use Rattle.tp4_world.specs.Called as requests

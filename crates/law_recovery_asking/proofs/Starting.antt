@@ -1,6 +1,6 @@
 -- From a state in which nothing is left to deliver: lines that are settled and lose nothing, and what becomes of an end that asked. Where its tries are T1 old it has sent its CR again, since no
 -- end is due; so its called end is there, or it was answered.
-use Rattle.std.proofs.Common.{◌++◌, ◌+◌, ◌∙◌, ◌∷◌, ◌≡◌, ◌≤◌, ◌⊎◌, List, None, Some, [], ℕ, ap, false, inl, inr, refl, subst, sym, true}
+use Rattle.std.proofs.Common.{◌++◌, ◌+◌, ◌∙◌, ◌∷◌, ◌≡◌, ◌≤◌, ◌⊎◌, List, Some, [], ℕ, ap, false, inl, inr, refl, subst, sym, true, append-nil}
 use Rattle.std.proofs.lemmas.Bool.{le-leb}
 use Rattle.std.proofs.lemmas.Option.{same_Some}
 use Rattle.osi_base.specs.Calls.{Call, Keeps}
@@ -19,26 +19,24 @@ use Rattle.tp4_conn.specs.declared.states.InCrWait.{InCrWait}
 use Rattle.tp4_conn.specs.declared.states.StateData.TheVariants.{AkWait}
 use Rattle.tp4_conn.specs.declared.timers.Timers.{Timers}
 use Rattle.tp4_entity.specs.Entity.{Entity, end_at}
-use Rattle.tp4_entity.specs.Step.{first_due, is_due, is_due_by}
-use Rattle.law_tp4_proper.specs.Rest.{AreProper}
+use Rattle.tp4_entity.specs.Step.{is_due, is_due_by}
 use Rattle.law_tp4_associations.proofs.Dues.{none_due}
 use Rattle.tp4_world.specs.World.{World, entity_at}
-use Rattle.tp4_world.specs.declared.place.Placed.{Placed}
-use Rattle.law_tp4_lawful.proofs.ReferencesHalves.{known_at}
-use Rattle.law_tp4_lawful.proofs.Worlds.{Followed, Rests}
-use Rattle.law_recovery_run.specs.Ordered.{InOrder, IsReady, ReachedFrom, RunsInOrder, hall_of}
+use Rattle.law_tp4_lawful.proofs.Worlds.{Followed}
+use Rattle.law_recovery_run.specs.Ordered.{InOrder, IsReady, ReachedFrom, RunsInOrder}
 use Rattle.law_recovery_run.proofs.Aiming.{Going}
-use Rattle.law_recovery_run.proofs.Ordered.{HaveRun, is_fifo, keeps_order, runs_ordered, undropped}
+use Rattle.law_recovery_run.proofs.Ordered.{is_fifo, keeps_order}
 use Rattle.law_recovery_walk.specs.Following.{Stands}
-use Rattle.law_recovery_walk.proofs.Coming.{StandsSo}
-use Rattle.law_recovery_walk.proofs.Settling.{IsExplained}
+use Rattle.law_recovery_walk.proofs.Settling.{IsExplained, timed as timed_by}
 use Rattle.law_recovery_request.specs.Requesting.{AreListening, AreUnanswered, cr_from, in_cr_wait}
 use Rattle.law_recovery_request.proofs.Coming.{Asking, IsPending, Refusing, Waiting, none_there}
 use Rattle.law_recovery_request.proofs.Settling.{here, is_indicated, own_is}
 use Rattle.law_recovery_service.specs.Asked.{IsExhausted, IsTold, IsUnregistered}
 use Rattle.law_recovery_asking.specs.Along.{HasIndicated}
-use Rattle.law_recovery_asking.proofs.Lines.{HasLasted, lines_last}
+use Rattle.law_recovery_asking.proofs.Lines.{kept}
 use Rattle.law_recovery_asking.proofs.State.{Accepted, Asked, Early, IsOn, Over, Replied, Told}
+use Rattle.law_recovery_script.proofs.Deeds.{HasReached}
+use Rattle.law_recovery_script.proofs.Starting.{runs_reach}
 
 none_split : {A : Type 0} (front : List A) (one : A) (back : List A) → [] ≡ front ++ (one ∷ back) → ⊥
 none_split {A} [] one back is = cc is
@@ -48,13 +46,7 @@ module _ {C : Type 0} (link : C → Link (List ℕ)) (steps : C → Call (List �
     (law : (old : C) (call : Call (List ℕ)) (new : C) → steps old call new → Keeps (link old) call (link new))
     (titles : List (List ℕ)) (begins : C) (Waits : C → List (CarriedUnit (List ℕ)) → Type 0) (prompt : IsPrompt link steps titles (ReachedFrom link steps titles begins) Waits) (going : Going)
     (follow : (titles : List (List ℕ)) (timers : Timers) → Followed titles timers) where
-  abbrev ordered : C → Call (List ℕ) → C → Type 0
-  ordered = InOrder link steps
-
-  keeps : (old : C) (call : Call (List ℕ)) (new : C) → ordered old call new → Keeps (link old) call (link new)
-  keeps = keeps_order link steps law
-
-  fifo : IsFifo link ordered titles Waits
+  abbrev fifo : IsFifo link (InOrder link steps) titles Waits
   fifo = is_fifo link steps titles (ReachedFrom link steps titles begins) Waits prompt
 
   module _ (early late : List Event) (old last : World C) (script : List Line) (x : ℕ) (b : EndRecord) (r : InCrWait) (ex : IsExplained link early old) (ready : IsReady link steps titles begins old)
@@ -65,44 +57,21 @@ module _ {C : Type 0} (link : C → Link (List ℕ)) (steps : C → Call (List �
     abbrev N : Type 0
     N = IsUnregistered old b.to b.called
 
-    -- the timers of an end are those of the network
-    timed : IsTimed ex.timers
-    timed =
-        let known = known_at link ex.titles ex.timers ex.w early old ex.explains x c.system c.entity c.reference (in_cr_wait b r) c.is_end in
-        subst IsTimed ((ex.explains.known.holds c.system c.entity c.is_end.there).theirs c.reference (in_cr_wait b r) c.is_end.stands) known.0.sees.timers
-
-    stands : StandsSo link ordered keeps titles Waits fifo old (hall_of link old) []
-    stands = record {
-      shows = record { clock = refl; entities = refl; ends = refl; waits = prompt.begins old.carrier ready.reached ready.none_left; units = refl };
-      kept = ready.kept;
-      have = ready.have;
-      rest = ready.rest;
-    }
-
-    rests : Rests link AreProper ex.titles ex.timers early old
-    rests = record {
-      w = ex.w;
-      explains = ex.explains;
-      rest = λ system e is. ((ready.kept system e is).proper, subst (λ (n : ℕ). first_due n e ≡ None) ex.explains.carries.clock (ready.rest system e is));
-    }
-
-    have_run : HaveRun link steps titles script old last late
-    have_run = runs_ordered link steps titles script old last late (inl ready.none_left) run.settled run.kept run.runs
-
     abbrev On : (F : Type 0) (y limit : ℕ) → List Event → World C → Type 0
     On F y limit done world = IsOn link x c.system from N F y limit b r done world []
 
-    lasted : (F : Type 0) (y limit : ℕ) → On F y limit [] old → HasLasted link ordered keeps titles Waits fifo ex.titles ex.timers going follow timed x c.system from N F y limit b r (early ++ late) late last
-    lasted F y limit begun = lines_last link ordered keeps titles Waits fifo ex.titles ex.timers going follow timed x c.system from N F y limit b r script old last early [] late (hall_of link old) [] stands rests ex.fit
-        (inl refl) run.settled run.proper run.unrouted (undropped late run.kept) begun have_run.runs
+    reached : (F : Type 0) (y limit : ℕ) → On F y limit [] old → HasReached link ex.titles ex.timers early (IsOn link x c.system from N F y limit b r) late last
+    reached F y limit begun = runs_reach link steps law titles begins Waits prompt going follow ex.titles ex.timers timed ex.w early early [] late old last script ex.explains ex.fit ready run (sym (append-nil early)) _ _
+        (kept link (InOrder link steps) (keeps_order link steps law) titles Waits fifo ex.titles ex.timers going follow timed early x c.system from N F y limit b r) begun
+      where
+        -- the timers of an end are those of the network
+        timed : IsTimed ex.timers
+        timed = timed_by link (InOrder link steps) (keeps_order link steps law) titles Waits fifo going follow early old ex x (in_cr_wait b r) c
 
     -- where nothing waits no end is due
     not_due : (F : Type 0) (y limit : ℕ) (begun : On F y limit [] old) (system own : ℕ) (entity : Entity) (e : End) → entity_at last.entities system ≡ Some entity → end_at entity own ≡ Some e
         → is_due (link last.carrier).clock (Some e) ≡ false
-    not_due F y limit begun system own entity e there at_it =
-        let l = lasted F y limit begun in
-        let here_in : entity_at l.hall.entities system ≡ Some entity = sym (ap (λ (ps : List Placed). entity_at ps system) l.stands.shows.entities) ∙ there in
-        subst (λ (n : ℕ). is_due n (Some e) ≡ false) (sym l.stands.shows.clock) (none_due l.hall.clock entity own e (l.stands.rest system entity here_in) at_it)
+    not_due F y limit begun system own entity e there at_it = none_due (link last.carrier).clock entity own e ((reached F y limit begun).waiting system entity there) at_it
 
     due_or : (tick : ℕ) (e : End) → is_due (link last.carrier).clock (Some e) ≡ false → due e.base e.stage ≡ Some tick → tick ≤ (link last.carrier).clock → ⊥
     due_or tick e none is low =
@@ -112,7 +81,7 @@ module _ {C : Type 0} (link : C → Link (List ℕ)) (steps : C → Call (List �
     -- none that it called was answered
     pub asks_along : AreUnanswered old b.to c.entity.own c.reference → AreListening (link old.carrier).clock old b.to → r.tries.last + b.timers.t1 ≤ (link last.carrier).clock
         → HasIndicated (early ++ late) last x ⊎ IsTold (IsUnregistered old b.to b.called) late x
-    asks_along unanswered listens past = by l.on
+    asks_along unanswered listens past = by l.holds
       where
         begun : On ⊥ 0 0 [] old
         begun = Early (λ never. never) (record {
@@ -123,11 +92,11 @@ module _ {C : Type 0} (link : C → Link (List ℕ)) (steps : C → Call (List �
           apart = tt;
         })
 
-        l : HasLasted link ordered keeps titles Waits fifo ex.titles ex.timers going follow timed x c.system from N ⊥ 0 0 b r (early ++ late) late last
-        l = lasted ⊥ 0 0 begun
+        l : HasReached link ex.titles ex.timers early (IsOn link x c.system from N ⊥ 0 0 b r) late last
+        l = reached ⊥ 0 0 begun
 
         after : IsExplained link (early ++ late) last
-        after = record { titles = ex.titles; timers = ex.timers; w = l.rests.w; explains = l.rests.explains; fit = l.fit }
+        after = record { titles = ex.titles; timers = ex.timers; w = l.w; explains = l.explains; fit = l.fit }
 
         by : On ⊥ 0 0 late last → HasIndicated (early ++ late) last x ⊎ IsTold N late x
         by (Early never k) = absurd (due_or (r.tries.last + b.timers.t1) (in_cr_wait b r) (not_due ⊥ 0 0 begun c.system b.own k.here.entity (in_cr_wait b r) k.here.there k.here.stands) refl past)
@@ -145,7 +114,7 @@ module _ {C : Type 0} (link : C → Link (List ℕ)) (steps : C → Call (List �
     -- the user of the end that it called accepted
     pub accepts_along : (y : ℕ) (f : End) (v : InAkWait) (d : Stands old y f) → f.stage ≡ AkWait v → d.entity.own ≡ b.to → is_called_by f.base c.entity.own c.reference ≡ true
         → v.tries.last + f.base.timers.t1 ≤ (link last.carrier).clock → IsTold (IsUnregistered old b.to b.called) late x ⊎ IsExhausted late y
-    accepts_along y f v d stage address called past = by l.on
+    accepts_along y f v d stage address called past = by l.holds
       where
         limit : ℕ
         limit = (link last.carrier).clock
@@ -178,8 +147,8 @@ module _ {C : Type 0} (link : C → Link (List ℕ)) (steps : C → Call (List �
           quiet = tt;
         })
 
-        l : HasLasted link ordered keeps titles Waits fifo ex.titles ex.timers going follow timed x c.system from N (Prim.Unit {0}) y limit b r (early ++ late) late last
-        l = lasted (Prim.Unit {0}) y limit begun
+        l : HasReached link ex.titles ex.timers early (IsOn link x c.system from N (Prim.Unit {0}) y limit b r) late last
+        l = reached (Prim.Unit {0}) y limit begun
 
         by : On (Prim.Unit {0}) y limit late last → IsTold N late x ⊎ IsExhausted late y
         by (Early never k) = absurd (never tt)

@@ -39,9 +39,10 @@ use Rattle.law_tp4_lawful.proofs.Worlds.{Explains}
 use Rattle.law_calm_run.proofs.Hall.{Post, posted}
 use Rattle.law_recovery_run.proofs.Aiming.{Going}
 use Rattle.law_recovery_run.proofs.Aside.{both_are}
+pub use Rattle.law_recovery_run.proofs.Aside.{frozen_of}
 use Rattle.law_recovery_walk.proofs.Waiting.{posted_each}
 use Rattle.law_recovery_request.specs.Requesting.{AreListening, IsUnanswered, cr_from, in_cr_wait}
-use Rattle.law_recovery_request.proofs.Coming.{Asking, IsHere, IsPending, IsWaiting}
+use Rattle.law_recovery_request.proofs.Coming.{Asking, IsHere, IsPending, IsWaiting, here_same, waiting_same}
 use Rattle.law_recovery_request.proofs.Keeping.{IsKeptApart}
 use Rattle.law_recovery_script.proofs.Asking.{at_place}
 use Rattle.law_recovery_script.proofs.Outlasting.{kept_is}
@@ -67,16 +68,6 @@ module _ (now : ℕ) (b : EndRecord) (r : InCrWait) where
   tick_row late = if_kept (λ (m : Moved). (m ≡ sends) ⊎ (m ≡ is_spent)) (nat_lt now (r.tries.last + b.timers.t1)) _ _
       (λ early. absurd (omega (arith, leb-true (r.tries.last + b.timers.t1) now late, ltb-true now (r.tries.last + b.timers.t1) early)))
       (λ _. if_kept (λ (m : Moved). (m ≡ sends) ⊎ (m ≡ is_spent)) (nat_lt r.tries.count b.timers.sendings) _ _ (λ _. inl refl) (λ _. inr refl))
-
--- an end that stopped is frozen
-pub frozen_of : (stage : StateData) (when : ℕ) → stop_of stage ≡ Some when → stage ≡ stages.Frozen when
-frozen_of (stages.CrWait w) when is = absurd (none-some when is)
-frozen_of (stages.WaitBeforeClose w) when is = absurd (none-some when is)
-frozen_of (stages.UserWait since) when is = absurd (none-some when is)
-frozen_of (stages.AkWait w) when is = absurd (none-some when is)
-frozen_of (stages.Opened w) when is = absurd (none-some when is)
-frozen_of (stages.Closing c) when is = absurd (none-some when is)
-frozen_of (stages.Frozen at) when is = ap (λ (n : ℕ). stages.Frozen n) (same_Some at when is)
 
 -- ---- an end ticks
 
@@ -443,32 +434,9 @@ module _ {C : Type 0} (link : C → Link (List ℕ)) (old new : World C) (entiti
     (longer : (to : List ℕ) → AreListening (link old.carrier).clock old to → AreListening (link new.carrier).clock new to) where
   module _ (x system : ℕ) (from : List ℕ) (N : Type 0) (F : Type 0) (y limit : ℕ) (first : EndRecord) (asked : InCrWait) (late made : List JournalEvent) (posts : List Post) where
     module _ (b : EndRecord) (r : InCrWait) where
-      here_same : IsHere system x from N b r old → IsHere system x from N b r new
-      here_same h = record {
-        entity = h.entity;
-        there = ap (λ (ps : List Placed). entity_at ps system) entities ∙ h.there;
-        own_is = h.own_is;
-        stands = h.stands;
-        number = ap (λ (es : List EndAt). latest es system b.own) ends ∙ h.number;
-      }
-
-      waiting_same : IsWaiting system x from N b r old → IsWaiting system x from N b r new
-      waiting_same d = record {
-        at_system = d.at_system;
-        own = d.own;
-        entity = d.entity;
-        end = d.end;
-        since = d.since;
-        there = ap (λ (ps : List Placed). entity_at ps d.at_system) entities ∙ d.there;
-        own_is = d.own_is;
-        stands = d.stands;
-        stage = d.stage;
-        called = d.called;
-      }
-
       bare_same : IsBare link x system from N b r old posts → IsBare link x system from N b r new posts
       bare_same k = record {
-        here = here_same k.here;
+        here = here_same system x from N b r old new entities ends k.here;
         unanswered = λ place own z f at_it. k.unanswered place own z f (ap (λ (ps : List Placed). entity_at ps place) (sym entities) ∙ at_it);
         listens = longer b.to k.listens;
         selects = λ place z at_it. k.selects place z (ap (λ (ps : List Placed). entity_at ps place) (sym entities) ∙ at_it);
@@ -477,11 +445,11 @@ module _ {C : Type 0} (link : C → Link (List ℕ)) (old new : World C) (entiti
 
       pending_same : IsPending system x from N b r old posts → IsPending system x from N b r new posts
       pending_same p = subst (IsPending system x from N b r new) (append-nil posts)
-          (pending_on x system from N b r old new posts [] p (λ place e at_it own. (e, ap (λ (ps : List Placed). entity_at ps place) entities ∙ at_it, own)) waiting_same)
+          (pending_on x system from N b r old new posts [] p (λ place e at_it own. (e, ap (λ (ps : List Placed). entity_at ps place) entities ∙ at_it, own)) (waiting_same system x from N b r old new entities))
 
       replied_same : IsReplied link x system from N b r old posts → IsReplied link x system from N b r new posts
       replied_same k = record {
-        here = here_same k.here;
+        here = here_same system x from N b r old new entities ends k.here;
         front = k.front;
         answer = k.answer;
         back = k.back;
@@ -498,7 +466,7 @@ module _ {C : Type 0} (link : C → Link (List ℕ)) (old new : World C) (entiti
     same_on (Asked never b r k p) = Asked never b r (bare_same b r k) (pending_same b r p)
     same_on (Replied b r k) = Replied b r (replied_same b r k)
     same_on (Accepted on b r k) = Accepted on b r (record {
-      here = here_same b r k.here;
+      here = here_same system x from N b r old new entities ends k.here;
       listens = longer b.to k.listens;
       selects = λ place z at_it. k.selects place z (ap (λ (ps : List Placed). entity_at ps place) (sym entities) ∙ at_it);
       apart = k.apart;

@@ -4,40 +4,27 @@ use Rattle.std.proofs.Common.{ℕ, List, []}
 use Rattle.osi_base.specs.Calls.{Call, Keeps}
 use Rattle.osi_base.specs.Link.{Link}
 use Rattle.osi_base.specs.declared.unit.Unit.{Unit as CarriedUnit}
-use Rattle.script_journal.specs.declared.event.Event.{Event}
 use Rattle.net_world.specs.Prompt.{IsPrompt}
-use Rattle.tp4_number.specs.Number.{whole}
-use Rattle.tp4_conn.specs.declared.timers.Timers.{Timers}
-use Rattle.tp4_world.specs.World.{World}
 use Rattle.law_tp4_history.specs.Ends.{Times}
 use Rattle.law_tp4_history.specs.Journals.{Written}
 use Rattle.law_tp4_history.specs.Tracks.{IsNothing, Whole}
-use Rattle.law_tp4_lawful.specs.Called.{AreHonestCalls}
 use Rattle.law_tp4_lawful.proofs.ActsLines.{Flowing}
-use Rattle.law_tp4_lawful.proofs.CalledStarts.{followed_by, on_whole}
+use Rattle.law_tp4_lawful.proofs.CalledStarts.{followed_by}
 use Rattle.law_tp4_lawful.proofs.MeetsOthers.{KnowsTaken}
-use Rattle.law_tp4_ended.proofs.Worlds.{IsFitWorld}
 use Rattle.law_recovery_run.specs.Ordered.{ReachedFrom}
 use Rattle.law_recovery_run.proofs.Aiming.{Going}
-use Rattle.law_recovery_walk.proofs.Fitting.{calls_fit}
-use Rattle.law_recovery_walk.proofs.Settling.{IsExplained}
 use Rattle.law_recovery_asking.specs.Along.{AcceptsAlong, AsksAlong}
 use Rattle.law_recovery_asking.proofs.Starting.{accepts_along, asks_along}
+use Rattle.law_recovery_script.proofs.Starting.{explained_by}
 
 module _ {C : Type 0} (link : C → Link (List ℕ)) (steps : C → Call (List ℕ) → C → Type 0) (law : (old : C) (call : Call (List ℕ)) (new : C) → steps old call new → Keeps (link old) call (link new))
     (flowing : Flowing) (knows : KnowsTaken) (begun : (times : Times) (titles : List (List ℕ)) (w : Whole) → IsNothing w → Written times titles w []) (going : Going) where
-  explained_by : (titles : List (List ℕ)) (timers : Timers) (early : List Event) (old : World C) → AreHonestCalls link steps whole titles timers early old → IsExplained link early old
-  explained_by titles timers early old calls =
-      on_whole link steps law flowing knows begun (λ (journal : List Event) world. IsFitWorld link world → IsExplained link journal world)
-      (λ titles timers w journal world explains fit. record { titles = titles; timers = timers; w = w; explains = explains; fit = fit }) titles timers early old calls
-      (calls_fit link steps law titles timers early old calls)
-
   pub asks_over : (titles : List (List ℕ)) (begins : C) (Waits : C → List (CarriedUnit (List ℕ)) → Type 0) → IsPrompt link steps titles (ReachedFrom link steps titles begins) Waits → AsksAlong link steps titles begins
   asks_over titles begins Waits prompt timers early late old last script x b r calls ready stands unanswered listens run past =
-      asks_along link steps law titles begins Waits prompt going (followed_by flowing knows) early late old last script x b r (explained_by titles timers early old calls) ready stands run unanswered listens past
+      asks_along link steps law titles begins Waits prompt going (followed_by flowing knows) early late old last script x b r (explained_by link steps law flowing knows begun titles timers early old calls) ready stands run unanswered listens past
 
   pub accepts_over : (titles : List (List ℕ)) (begins : C) (Waits : C → List (CarriedUnit (List ℕ)) → Type 0) → IsPrompt link steps titles (ReachedFrom link steps titles begins) Waits
       → AcceptsAlong link steps titles begins
   accepts_over titles begins Waits prompt timers early late old last script x y b r f v calls ready stands there stage address called run past =
-      accepts_along link steps law titles begins Waits prompt going (followed_by flowing knows) early late old last script x b r (explained_by titles timers early old calls) ready stands run y f v there stage address
+      accepts_along link steps law titles begins Waits prompt going (followed_by flowing knows) early late old last script x b r (explained_by link steps law flowing knows begun titles timers early old calls) ready stands run y f v there stage address
       called past

@@ -11,7 +11,7 @@ use Rattle.tp4_conn.specs.End.{End}
 use Rattle.tp4_conn.specs.Wire.{end_on_wire, stage_on_wire}
 use Rattle.tp4_conn.specs.declared.states.InAkWait.{InAkWait}
 use Rattle.tp4_conn.specs.declared.states.StateData.{StateData}
-use Rattle.tp4_conn.specs.declared.states.StateData.TheVariants.{AkWait, Closing, CrWait, Frozen, Opened, UserWait, WaitBeforeClose}
+use Rattle.tp4_conn.specs.declared.states.StateData.TheVariants.{AkWait, CrWait, UserWait}
 use Rattle.tp4_conn.specs.declared.timers.Timers.{Timers}
 use Rattle.tp4_entity.specs.Wire.{entity_on_wire}
 use Rattle.tp4_world.specs.First.{HasNoEnd}
@@ -33,12 +33,7 @@ lower_end world number end is = placed_on world number (end_numbered world.ends 
 
 unanswered_above : (stage : StateData) → IsUnanswered (stage_on_wire stage) → IsUnanswered stage
 unanswered_above (UserWait since) un = un
-unanswered_above (Frozen when) un = un
-unanswered_above (CrWait w) un = un
-unanswered_above (WaitBeforeClose w) un = un
-unanswered_above (AkWait w) un = un
-unanswered_above (Opened o) un = un
-unanswered_above (Closing c) un = un
+unanswered_above stage un = un
 
 listening_above : {C : Type 0} (now : ℕ) (world : World C) (to : List ℕ) → AreListening now (world_on_wire world) to → AreListening now world to
 listening_above now world to was system entity there own = was system (entity_on_wire entity) (found_on world.entities system ∙ ap (option_map entity_on_wire) there) own
@@ -93,12 +88,7 @@ asked_on_wire {C} link t at_t0 last early late asked x e w e_is e_asks still pas
 
 ak_above : (stage : StateData) (v : InAkWait) → stage_on_wire stage ≡ AkWait v → (upper : InAkWait) × (stage ≡ AkWait upper)
 ak_above (AkWait w) v is = (w, refl)
-ak_above (CrWait w) v is = absurd (cc is)
-ak_above (WaitBeforeClose w) v is = absurd (cc is)
-ak_above (UserWait since) v is = absurd (cc is)
-ak_above (Opened o) v is = absurd (cc is)
-ak_above (Closing c) v is = absurd (cc is)
-ak_above (Frozen when) v is = absurd (cc is)
+ak_above stage v is = absurd (cc is)
 
 accepted_on_wire : {C : Type 0} (link : C → Link (List ℕ)) (t : Timers) (at_t0 last : World C) (early late : List Event) → AreAccepted link t at_t0 last early late
     → AreAccepted link t (world_on_wire at_t0) (world_on_wire last) early late

@@ -1,7 +1,7 @@
 -- An end that is not due has tried, spoken and heard in time.
 use Rattle.std.proofs.Common.{◌≡◌, inl, inr, ◌<◌, ◌≤◌, ℕ, ◌+◌, Bool, true, if◌then◌else◌, List, [], ◌∷◌, length, Option, Some, None, subst, arith, Contains}
 use Rattle.std.proofs.lemmas.Bool.{cases_lt}
-use Rattle.tp4_sending.specs.FlowSender.{FlowSender, due_of, normal_opens, urgent_last, urgent_opens}
+use Rattle.tp4_sending.specs.SendingHalf.{FlowSender, due_of, normal_opens, urgent_last, urgent_opens}
 use Rattle.tp4_sending.specs.Pieces.{least_due, sooner}
 use Rattle.tp4_sending.specs.declared.tries.Tries.{Tries}
 use Rattle.tp4_conn.specs.declared.end_record.EndRecord.{EndRecord}

@@ -4,7 +4,7 @@ use Rattle.std.proofs.lemmas.Bool.{cases_lt}
 use Rattle.tp4_number.specs.Number.{near, wire}
 use Rattle.tp4_number.specs.Sender.{Sender}
 use Rattle.tp4_number.specs.Traffic.{Answer, ReadsRightly, Rules, Traffic}
-use Rattle.tp4_sending.specs.FlowSender.{FlowSender, block_in}
+use Rattle.tp4_sending.specs.SendingHalf.{FlowSender, block_in}
 use Rattle.tp4_conn.specs.Table.{Event}
 use Rattle.law_tp4_recovery.specs.Speaking.{Began, Heard, Knows}
 use Rattle.law_tp4_recovery.specs.Views.{known, view_of}

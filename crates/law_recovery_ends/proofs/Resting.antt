@@ -1,8 +1,8 @@
 -- A direction is at rest, by the law along roads.
 use Rattle.std.proofs.Common.{◌≡◌, inl, inr, ◌≤◌, ℕ, ◌+◌, max, ap, arith}
-use Rattle.tp4_flow.specs.Half.{Half}
+use Rattle.tp4_flow.specs.ReceivingHalf.{Half}
 use Rattle.tp4_number.specs.Traffic.{Traffic}
-use Rattle.tp4_sending.specs.FlowSender.{FlowSender}
+use Rattle.tp4_sending.specs.SendingHalf.{FlowSender}
 use Rattle.law_tp4_recovery.specs.Recovering.{IsLevel, IsNotDue, Road}
 use Rattle.law_tp4_recovery.specs.Views.{View}
 use Rattle.law_tp4_recovery.proofs.Chains.{views_recover}

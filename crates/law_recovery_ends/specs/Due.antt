@@ -4,7 +4,7 @@ use Rattle.std.specs.Prelude.{◌⊎◌, ◌<◌, ℕ, ◌+◌, List, [], ◌∷
 use Rattle.tp4_sending.specs.declared.tries.Tries.{Tries}
 use Rattle.tp4_conn.specs.declared.end_record.EndRecord.{EndRecord}
 use Rattle.tp4_conn.specs.declared.states.InOpened.{InOpened}
-use Rattle.tp4_sending.specs.FlowSender.{FlowSender}
+use Rattle.tp4_sending.specs.SendingHalf.{FlowSender}
 
 -- each number of a window, from n on, was tried last before that tick, or stands among the sendings with the tick at which it was tried last
 abbrev pub AreTried : ℕ → ℕ → List Tries → List (ℕ × ℕ) → Type 0

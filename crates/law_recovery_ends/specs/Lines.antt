@@ -2,7 +2,7 @@
 use Rattle.std.specs.Prelude.{◌≡◌, ◌≤◌, ℕ, ◌+◌, Contains}
 use Rattle.tp4_number.specs.Number.{wire}
 use Rattle.tp4_number.specs.Traffic.{Answer, Rules, Traffic}
-use Rattle.tp4_sending.specs.FlowSender.{FlowSender}
+use Rattle.tp4_sending.specs.SendingHalf.{FlowSender}
 use Rattle.tp4_conn.specs.Table.{Event}
 use Rattle.law_recovery_ends.specs.Knowing.{SaysAk}
 

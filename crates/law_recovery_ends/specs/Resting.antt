@@ -1,26 +1,31 @@
 -- One direction between two Opened ends: where nothing waits and neither is due, long enough after a tick since when nothing is lost, nothing is outstanding, and both
 -- know the same (X.224, class 4: retransmission, explicit flow control).
 use Rattle.std.specs.Prelude.{◌≡◌, ◌⊎◌, ◌<◌, ℕ, ◌+◌, List, [], length, Contains}
-use Rattle.tp4_flow.specs.Half.{Half}
-use Rattle.tp4_number.specs.Traffic.{Answer, Event, IsFit, Leads, Tick, Traffic, after, start}
-use Rattle.tp4_sending.specs.FlowSender.{FlowSender}
+use Rattle.tp4_flow.specs.ReceivingHalf.{Half}
+use Rattle.tp4_number.specs.Traffic.{Answer, Event, IsFit, Leads, Rules, Tick, Traffic, after, start}
+use Rattle.tp4_sending.specs.SendingHalf.{FlowSender}
 use Rattle.law_tp4_recovery.specs.Recovering.{IsFitted}
 use Rattle.law_tp4_recovery.specs.Views.{AreViews}
 use Rattle.law_recovery_pair.specs.Riding.{Aside, GoesOn, road_of, rules_by}
 use Rattle.law_recovery_ends.specs.Due.{AreTried, AreYoung}
 
--- whatever was before: traffic that some events lead to, whose views are in order, and a receiver with its places
-pub record IsPast (life size : ℕ) (s : FlowSender) (w : Traffic) : Type 0 where
-  pub fit : IsFit (rules_by life s.rules)
+-- whatever was before: traffic that some events lead to, whose views are in order
+pub record WasReached (rules : Rules) (w : Traffic) : Type 0 where
+  pub fit : IsFit rules
   pub tick : ℕ
   pub credit : ℕ
   pub places : ℕ
   pub room : ℕ
-  pub credit_low : credit < (rules_by life s.rules).block
-  pub room_low : room < (rules_by life s.rules).block
+  pub credit_low : credit < rules.block
+  pub room_low : room < rules.block
   pub events : List Event
-  pub leads : Leads (rules_by life s.rules) (start tick credit places room) events w
+  pub leads : Leads rules (start tick credit places room) events w
   pub views : AreViews w
+
+-- and a receiver with its places
+pub record IsPast (life size : ℕ) (s : FlowSender) (w : Traffic) : Type 0 where
+  pub reached : WasReached (rules_by life s.rules) w
+  pub open reached use *
   pub fits : IsFitted size w.receiver
 
 -- since then nothing was lost: the halves are where some moves lead from the next tick on, and nothing waits

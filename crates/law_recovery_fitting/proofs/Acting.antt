@@ -14,7 +14,7 @@ use Rattle.tp4_number.specs.Receiver.{granted}
 use Rattle.tp4_flow.specs.declared.rules.SubmitRefusal.{SubmitRefusal}
 use Rattle.tp4_flow.specs.declared.rules.SubmitRefusal.TheVariants as submits
 use Rattle.tp4_flow.specs.declared.step.Sent.{Sent}
-use Rattle.tp4_sending.specs.FlowSender.{FlowSender, refusal, urgent_refusal}
+use Rattle.tp4_sending.specs.SendingHalf.{FlowSender, refusal, urgent_refusal}
 use Rattle.tp4_sending.specs.declared.tries.Tries.{Tries}
 use Rattle.tp4_conn.specs.declared.call.UserCall.{UserCall}
 use Rattle.tp4_conn.specs.declared.call.UserCall.TheVariants.{Accept, Disconnect, Normal as Sends, Refuse, Urgent as Urges, Window}
@@ -30,11 +30,12 @@ use Rattle.tp4_conn.specs.Opened.{granting, is_expedited}
 use Rattle.tp4_conn.specs.Proper.{AreSendable, IsProper, IsProperEvent}
 use Rattle.tp4_conn.specs.Table.{Called, Event, Ticked, Took, at, on_call, on_tick, on_tpdu, stepped, takes, untaken}
 use Rattle.tp4_conn.proofs.Propers.{step_row}
+use Rattle.tp4_conn.proofs.Sendables.{appended}
 use Rattle.script_journal.specs.Lawful.{Marked, expediteds, normals}
 use Rattle.law_tp4_history.specs.Ends.{Ak, Body, Dt, Ea, Ed, Offer, Sent as SentBy, Terms, Times}
 use Rattle.law_tp4_history.specs.Tracks.{CanIn, CanOut, GoesOn, IsRun, Track}
 use Rattle.law_tp4_history.proofs.Marks.{expediteds-append, normals-append}
-use Rattle.law_tp4_history.proofs.Tracked.{GrowsTrack, Hears, HearsIn, runs_in, runs_out}
+use Rattle.law_tp4_history.proofs.Tracked.{GrowsTrack, Hears, HearsIn, grows_same, run_with, runs_in, runs_out, with_line}
 use Rattle.law_tp4_moves.specs.Lines.{AreSentIn, Begun, CarriesItsUnit, Flowed, Going, IsIn, IsKnownEvent, IsKnownTpdu, IsSentIn, IsTimely, LinesGoOn, LinesStay, Stands, Still, given}
 use Rattle.law_tp4_moves.specs.Seen.{IsNumbered, seen}
 use Rattle.law_tp4_pair.specs.Pair.{tick_of}
@@ -42,7 +43,7 @@ use Rattle.law_tp4_pair.specs.steps.Waiting.{IsDataFor}
 use Rattle.law_recovery_going.specs.Fitting.{AllShort}
 use Rattle.law_recovery_going.proofs.Rows.{IsHolding, call_does, data_does, tick_does}
 use Rattle.law_recovery_fitting.specs.Lined.{IsSide}
-use Rattle.law_recovery_fitting.proofs.Sending.{plain_in, run_on, sendable_then, sent_on, sent_then, submitted_in, track_same, track_with}
+use Rattle.law_recovery_fitting.proofs.Sending.{plain_in, sent_on, sent_then, submitted_in}
 
 -- what the rows do to the lines
 abbrev pub Flows : Type 0
@@ -118,28 +119,28 @@ module _ (flows : Flows) (partners : Partners) (times : Times) (terms : Terms) (
       forth_in = sent_on l.there l.here there here now g k rest rest_in;
       back_in = sent_then here there now back m.tpdus (sent_on l.here l.there here there now k g back l.back_in) sent;
       forth_are = rest_are;
-      back_are = sendable_then back m.tpdus l.back_are (step_row whole now y event l.theirs.proper proper).tpdus;
+      back_are = appended back m.tpdus l.back_are (step_row whole now y event l.theirs.proper proper).tpdus;
     }
 
     goes : LinesGoOn terms now taken event m l.here l.there → AreInLines times terms now x (end_of m) rest (back ++ m.tpdus) u (v ++ given event)
     goes g =
         let out = runs_out taken now l.here l.here.line g.own_goes.happenings g.own.line l.theirs.run.at hears g.own_goes.runs in
         let into = runs_in taken now l.there l.there.line g.they_go.happenings g.theirs.line l.mine.run.at hears_in g.they_go.runs in
-        all g.theirs g.own (track_with l.there g.theirs g.they_go.same into.1) (track_with l.here g.own g.own_goes.same out.1)
+        all g.theirs g.own (with_line l.there g.theirs g.they_go.same into.1) (with_line l.here g.own g.own_goes.same out.1)
         (record {
           stands = partners taken l.here l.there g.own g.theirs g.own_goes g.they_go terms x.base x.stage l.mine.stands;
           proper = l.mine.proper;
           life = l.mine.life;
-          run = run_on times now now l.there g.theirs g.they_go.happenings g.they_go.same l.mine.run into.0 into.2;
+          run = run_with times now l.there g.theirs g.they_go.happenings g.they_go.same l.mine.run into.0 now into.2;
           submitted = submitted_in taken l.there l.there.line g.theirs.line g.they_go.happenings g.they_go.runs ∙ l.mine.submitted;
           short = l.mine.short;
           urged = l.mine.urged;
         })
-        (side g.own g.theirs g.stands (run_on times now now l.here g.own g.own_goes.happenings g.own_goes.same l.theirs.run out.0 out.2) (g.gave ∙ ap (λ (l : List Marked). l ++ given event) l.theirs.submitted)) g.sent
+        (side g.own g.theirs g.stands (run_with times now l.here g.own g.own_goes.happenings g.own_goes.same l.theirs.run out.0 now out.2) (g.gave ∙ ap (λ (l : List Marked). l ++ given event) l.theirs.submitted)) g.sent
 
     stays_so : LinesStay terms event m l.here l.there → AreInLines times terms now x (end_of m) rest (back ++ m.tpdus) u (v ++ given event)
     stays_so s =
-        all l.there l.here (track_same l.there) (track_same l.here) l.mine
+        all l.there l.here (grows_same l.there) (grows_same l.here) l.mine
         (side l.here l.there s.stands l.theirs.run (l.theirs.submitted ∙ sym (append-nil v) ∙ ap (λ (units : List Marked). v ++ units) (sym s.gave))) (plain_in l.here l.there now m.tpdus s.plain)
 
     pub acts : AreInLines times terms now x (end_of m) rest (back ++ m.tpdus) u (v ++ given event)

@@ -7,7 +7,7 @@ use Rattle.tp4_number.specs.Number.{ahead, wire}
 use Rattle.tp4_number.specs.Receiver.{Inbox, arrived}
 use Rattle.tp4_number.specs.declared.got.Got.TheVariants.{TooLarge}
 use Rattle.tp4_number.specs.declared.piece.Piece.{Piece}
-use Rattle.tp4_flow.specs.Half.{block_in}
+use Rattle.tp4_flow.specs.ReceivingHalf.{block_in}
 use Rattle.tp4_flow.specs.declared.step.Sent.{Sent}
 use Rattle.tp4_conn.specs.declared.states.InOpened.{InOpened}
 use Rattle.tp4_conn.specs.declared.states.StateData.{StateData}

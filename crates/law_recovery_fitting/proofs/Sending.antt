@@ -3,51 +3,20 @@ use Rattle.std.proofs.Common.{◌≡◌, ℕ, ◌+◌, List, [], ◌∷◌, ◌+
 use Rattle.tpdu.specs.declared.tpdu.Tpdu.{Tpdu}
 use Rattle.tpdu.specs.declared.tpdu.Tpdu.TheVariants as wires
 use Rattle.tp4_number.specs.Formats.{block_of}
-use Rattle.tp4_number.specs.Traffic.{Rules}
 use Rattle.tp4_flow.specs.declared.step.Sent.{Sent}
 use Rattle.tp4_sending.specs.Pieces.{cut_at}
-use Rattle.tp4_conn.specs.Proper.{AreSendable}
 use Rattle.script_journal.specs.Lawful.{normals}
 use Rattle.law_tp4_history.specs.Ends.{Ak, Body, Dt, Ea, Ed, Offer, Plain, Times}
-use Rattle.law_tp4_history.specs.Line.{Clock, Expedites, Flows, Happening, Line, Runs, Submit, empty, next as next_line}
-use Rattle.law_tp4_history.specs.Tracks.{CanIn, IsAt, IsRun, RunsBy, Track, clocked}
-use Rattle.law_tp4_history.proofs.Tracked.{Grows, GrowsTrack}
+use Rattle.law_tp4_history.specs.Line.{Clock, Expedites, Flows, Happening, Line, Submit, next as next_line}
+use Rattle.law_tp4_history.specs.Tracks.{CanIn, IsRun, RunsBy, Track, clocked}
+use Rattle.law_tp4_history.proofs.Tracked.{GrowsTrack, run_with}
 use Rattle.law_tp4_moves.specs.Lines.{ArePlain, AreSentIn, IsIn}
 use Rattle.law_tp4_moves.specs.Seen.{IsNumbered, seen}
-
-pub track_same : (t : Track) → GrowsTrack t t
-track_same t = record {
-  begun = λ e. e;
-  size = λ _. refl;
-  line = λ _. record { sends = λ x c. c; answers = λ x c. c; eds = λ x c. c; eas = λ x c. c; pieces = λ n p e. e; units = λ n low. (low, refl) };
-}
-
-pub track_with : (t new : Track) → new ≡ record t { line = new.line } → Grows t.size t.line new.line → GrowsTrack t new
-track_with t new same g = record { begun = λ e. ap (λ (x : Track). x.is_begun) same ∙ e; size = λ _. ap (λ (x : Track). x.size) same; line = λ _. g }
-
--- ---- runs
-
-runs_more : (rules : Rules) (size : ℕ) (old mid new : Line) (happenings more : List Happening) → Runs rules size old happenings mid → Runs rules size mid more new → Runs rules size old (happenings ++ more) new
-runs_more rules size old mid new [] more a b = subst (λ (l : Line). Runs rules size l more new) a b
-runs_more rules size old mid new (happening ∷ happenings) more a b = (a.0, runs_more rules size (next_line rules old happening) mid new happenings more a.1 b)
-
-pub run_on : (times : Times) (clock later : ℕ) (t new : Track) (more : List Happening) → new ≡ record t { line = new.line } → IsRun times clock t → Runs t.rules t.size t.line more new.line → IsAt later new.line
-    → IsRun times later new
-run_on times clock later t new more same r runs at = subst (IsRun times later) (sym same) (record {
-  long = r.long;
-  life = r.life;
-  some = r.some;
-  credit_low = r.credit_low;
-  room_low = r.room_low;
-  happenings = r.happenings ++ more;
-  runs = runs_more t.rules t.size (empty t.tick t.credit t.places t.room) t.line new.line r.happenings more r.runs runs;
-  at = at;
-})
 
 -- a tick
 pub run_clocked : (times : Times) (clock : ℕ) (t : Track) → IsRun times clock t → IsRun times (clock + 1) (clocked t)
 run_clocked times clock t r =
-    run_on times clock (clock + 1) t (clocked t) (Clock ∷ []) refl r (record {}, refl) (ap (λ (n : ℕ). n + 1) r.at.0, ap (λ (n : ℕ). n + 1) r.at.1)
+    run_with times clock t (clocked t) (Clock ∷ []) refl r (record {}, refl) (clock + 1) (ap (λ (n : ℕ). n + 1) r.at.0, ap (λ (n : ℕ). n + 1) r.at.1)
 
 -- the partner submits nothing
 pub submitted_in : (taken : Option Offer) (t : Track) (old new : Line) (happenings : List Happening) → RunsBy (CanIn taken) t old happenings new → new.submitted ≡ old.submitted
@@ -92,7 +61,3 @@ module _ (own theirs : Track) (tick : ℕ) where
   plain_in [] p = tt
   plain_in (sent ∷ l) p =
       (record { n = 0; numbered = plain_number (block_of sent.format) sent.tpdu (p.0 0); stands = subst (IsIn own theirs tick) (sym (p.0 0)) tt }, plain_in l p.1)
-
-pub sendable_then : (a b : List Sent) → AreSendable a → AreSendable b → AreSendable (a ++ b)
-sendable_then [] b s t = t
-sendable_then (sent ∷ a) b s t = (s.0, sendable_then a b s.1 t)

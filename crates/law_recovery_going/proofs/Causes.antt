@@ -4,7 +4,7 @@ use Rattle.std.specs.List.{list_any}
 use Rattle.std.proofs.lemmas.Bool.{and_parts, cases_Bool, leb-true}
 use Rattle.std.proofs.lemmas.List.Elements.{Contains-append_left, Contains-push}
 use Rattle.tp4_flow.specs.declared.rules.Life.TheVariants.{Exhausted, Goes}
-use Rattle.tp4_sending.specs.FlowSender.{FlowSender, at, is_urgent_spent, is_window_spent, life_of}
+use Rattle.tp4_sending.specs.SendingHalf.{FlowSender, at, is_urgent_spent, is_window_spent, life_of}
 use Rattle.tp4_sending.specs.Pieces.{is_spent}
 use Rattle.tp4_sending.specs.declared.tries.Tries.{Tries}
 use Rattle.law_tp4_recovery.proofs.Keeping.{later_too}

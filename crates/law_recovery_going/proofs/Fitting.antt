@@ -1,5 +1,5 @@
 -- Pieces of units that are not too large join to no unit that is.
-use Rattle.std.proofs.Common.{◌≡◌, ◌⊎◌, inl, inr, ℕ, zero, suc, ◌+◌, ◌*◌, ◌-◌, ◌<◌, ◌≤◌, ◌==◌, ◌||◌, Bool, true, false, nat_le, if◌then◌else◌, List, [], ◌∷◌, ◌++◌, length, get_or, set, Option, Some, None, refl, sym, ◌∙◌, ap, subst, arith, add-zero, length-append}
+use Rattle.std.proofs.Common.{◌≡◌, ◌⊎◌, inl, inr, ℕ, suc, ◌+◌, ◌*◌, ◌-◌, ◌<◌, ◌≤◌, ◌==◌, ◌||◌, Bool, true, false, nat_le, if◌then◌else◌, List, [], ◌∷◌, ◌++◌, length, get_or, set, Option, Some, None, refl, sym, ◌∙◌, ap, subst, arith, add-zero, length-append}
 use Rattle.std.proofs.lemmas.Bool.{cases_lt, ltb-true}
 use Rattle.std.proofs.lemmas.List.{length-take-le}
 use Rattle.tp4_number.specs.Number.{ahead, wire}
@@ -15,6 +15,7 @@ use Rattle.tp4_number.proofs.Steps.{all_sound}
 use Rattle.tp4_sending.specs.Pieces.{count_in, cut_at}
 use Rattle.law_tp4_history.specs.Complete.{AllFull, Complete}
 use Rattle.law_tp4_history.proofs.Complete.{one_piece, shown_on}
+use Rattle.law_tp4_history.proofs.Lines.{set_same}
 use Rattle.law_tp4_recovery.specs.Views.{IsWithin}
 use Rattle.law_recovery_going.specs.Fitting.{AllShort, HasPieces, IsReadIn}
 
@@ -51,13 +52,6 @@ none_large size some units full short (Some piece ∷ places) n shown begun c he
         → (if b then record { count = 0; units = []; begun = begun; is_large = true } else joined_by piece (begun ++ piece.octets) (joined (begun_by piece (begun ++ piece.octets)) places)).is_large ≡ false
     by true e rest = absurd (omega (arith, ltb-true _ _ e, length-append begun piece.octets, next_short size units (n + 1) shown (begun ++ piece.octets) piece.last short step))
     by false e rest = rest
-
-set_same : (places : List (Option Piece)) (d j : ℕ) (piece other : Piece) → get_or (set places d (Some piece)) j None ≡ Some other → ((j ≡ d) × (piece ≡ other)) ⊎ (get_or places j None ≡ Some other)
-set_same [] d j piece other h = absurd (cc h)
-set_same (x ∷ places) zero zero piece other h = inl (refl, cc h)
-set_same (x ∷ places) zero (suc j) piece other h = inr h
-set_same (x ∷ places) (suc d) zero piece other h = inr h
-set_same (x ∷ places) (suc d) (suc j) piece other h = elim (set_same places d j piece other h) [ inl here ↦ inl (ap suc here.0, here.1) | inr old ↦ inr old ]
 
 small : (g : Got) → (g ≡ Kept) ⊎ ((g ≡ Old) ⊎ (g ≡ Outside)) → g ≡ TooLarge → ⊥
 small g (inl e) f = cc (sym e ∙ f)

@@ -3,11 +3,11 @@ use Rattle.std.proofs.Common.{◌≡◌, ◌⊎◌, inl, inr, ◌<◌, ◌≤◌
 use Rattle.tp4_number.specs.Formats.{most_of}
 use Rattle.tp4_number.specs.Number.{whole}
 use Rattle.tp4_number.specs.Traffic.{Traffic}
-use Rattle.tp4_flow.specs.Half.{Half}
+use Rattle.tp4_flow.specs.ReceivingHalf.{Half}
 use Rattle.tp4_flow.specs.declared.rules.FlowRules.{FlowRules}
 use Rattle.tpdu.specs.declared.service.Options.{Options}
 use Rattle.tp4_flow.specs.declared.step.Sent.{Sent}
-use Rattle.tp4_sending.specs.FlowSender.{FlowSender, block_in}
+use Rattle.tp4_sending.specs.SendingHalf.{FlowSender, block_in}
 use Rattle.tp4_conn.specs.declared.call.UserCall.{UserCall}
 use Rattle.tp4_conn.specs.declared.states.InOpened.{InOpened}
 use Rattle.tp4_conn.specs.declared.states.StateData.{StateData}
@@ -30,9 +30,10 @@ use Rattle.law_recovery_steps.specs.Resting.{AreBegun, AreLater, IsBegun, since}
 use Rattle.law_recovery_steps.specs.Steps.{AreRiding, IsParted, IsRiding, Since}
 use Rattle.law_recovery_steps.specs.Urging.{Urges}
 use Rattle.law_recovery_steps.proofs.Beginning.{pair_begins}
-use Rattle.law_recovery_steps.proofs.Pairs.{clock_riding}
+use Rattle.law_recovery_steps.proofs.Pairs.{back_clock, clock_riding, forth_clock}
 use Rattle.law_recovery_steps.proofs.Quieting.{eds_young}
-use Rattle.law_recovery_steps.proofs.Resting.{begins_again, begins_riding, first, no_aks, no_dts, one as one_now, one_since, other as other_now, other_since, past_for, quiet_in}
+use Rattle.law_recovery_steps.proofs.Sending.{no_aks, no_dts}
+use Rattle.law_recovery_steps.proofs.Resting.{begins_again, begins_riding, first, one as one_now, one_since, other as other_now, other_since, past_for, quiet_in}
 use Rattle.law_recovery_going.specs.Going.{AreBothOpened, AreTicked, AreTimes, HasParted, HaveTimers, IsDisconnect, IsWrong, IsWrongFirst, LeavesBy}
 use Rattle.law_recovery_going.proofs.Causes.{IsEarly, begins_early}
 use Rattle.law_recovery_going.proofs.Going.{Acts, AreGoing, ByTick, IsKept, calls_acts, leaves_follow, same_open, sums_agree, takes_acts, tick_row, ticks_act, turned_going, why_ticks}
@@ -376,14 +377,6 @@ module _ (life size : ℕ) (t : Timers) (times : AreTimes t) (p : Pair) (o q : I
 
       by : AreBy t g.o g.q
       by = by_rules t o q g.o g.q g.going.both.ours.sending g.going.both.theirs.sending rules
-
-  forth_clock : (mid : Pair) (l : List Sent) → (comes_forth mid l).clock ≡ mid.clock
-  forth_clock mid [] = refl
-  forth_clock mid (sent ∷ more) = refl
-
-  back_clock : (mid : Pair) (l : List Sent) → (comes_back mid l).clock ≡ mid.clock
-  back_clock mid [] = refl
-  back_clock mid (sent ∷ more) = refl
 
   before_tick : (happenings : List Happening) (mid : Pair) → Going mid → mid.clock ≡ p.clock → AreTicked mid happenings → Leads mid happenings last → Ends mid happenings
   before_tick [] mid g now ticked leads = inl (ends life size p.clock t times o q last one_first other_first mid g leads)

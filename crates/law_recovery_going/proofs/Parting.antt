@@ -1,5 +1,5 @@
 -- Where an end has left, a DR waits for its partner, which leaves by it.
-use Rattle.std.proofs.Common.{◌≡◌, ◌⊎◌, inl, inr, ℕ, ◌+◌, Bool, true, false, ◌&&◌, not, List, [], ◌∷◌, ◌++◌, refl, sym, ◌∙◌, ap, subst, true≢false}
+use Rattle.std.proofs.Common.{◌≡◌, ◌⊎◌, inl, inr, ℕ, ◌+◌, Bool, false, ◌&&◌, not, List, [], ◌∷◌, ◌++◌, refl, sym, ◌∙◌, ap, subst, true≢false}
 use Rattle.tpdu.specs.declared.tpdu.Tpdu.{Tpdu}
 use Rattle.tpdu.specs.declared.tpdu.Tpdu.TheVariants.{Ak, Cc, Dr, Dt, Ea, Ed, Er}
 use Rattle.tp4_number.specs.declared.got.Got.{Got}
@@ -7,7 +7,7 @@ use Rattle.tp4_number.specs.declared.got.Got.TheVariants.{TooLarge}
 use Rattle.tp4_number.specs.declared.piece.Piece.{Piece}
 use Rattle.tp4_number.specs.Number.{whole}
 use Rattle.tp4_number.proofs.Past.{if_kept}
-use Rattle.tp4_flow.specs.Half.{dt_arrival, taken_dt, taken_ed}
+use Rattle.tp4_flow.specs.ReceivingHalf.{dt_arrival, taken_dt, taken_ed}
 use Rattle.tp4_flow.specs.declared.step.Sent.{Sent}
 use Rattle.tp4_conn.specs.declared.end_record.EndRecord.{EndRecord}
 use Rattle.tp4_conn.specs.declared.states.InOpened.{InOpened}
@@ -16,10 +16,11 @@ use Rattle.tp4_conn.specs.declared.states.StateData.TheVariants.{Opened}
 use Rattle.tp4_conn.specs.End.{End, Moved, end_of}
 use Rattle.tp4_conn.specs.Matching.{sum_agreed}
 use Rattle.tp4_conn.specs.Opened.{dt_as, hearing, is_expedited, opened_tpdu, protocol_error, receiving}
-use Rattle.tp4_conn.specs.Table.{Called, Ticked, Took, at, stepped, takes}
-use Rattle.law_tp4_pair.specs.Pair.{Asks_called, Asks_calling, Clock, Comes_back, Comes_forth, Happening, IsIdle, Leads, May, Pair, comes_back, comes_forth, next, tick_of}
+use Rattle.tp4_conn.specs.Table.{Called, Took, at, stepped, takes}
+use Rattle.law_tp4_pair.specs.Pair.{Asks_called, Asks_calling, Clock, Comes_back, Comes_forth, Happening, IsIdle, Leads, May, Pair, comes_back, comes_forth, next}
 use Rattle.law_tp4_pair.specs.steps.Standing.{HasLeft}
 use Rattle.law_tp4_pair.proofs.Leaving.{stays_left}
+use Rattle.law_tp4_pair.proofs.Pairs.{tick_left}
 use Rattle.law_recovery_going.specs.Going.{AreBothLeft}
 use Rattle.law_recovery_going.proofs.Rows.{HasRelease, IsRelease}
 
@@ -109,10 +110,6 @@ follows_left x y (left, inr f) = absurd f.release
 pub both_left : (p : Pair) → IsIdle p → AreParting p → AreBothLeft p
 both_left p idle (inl f) = follows_left p.calling p.called (subst (Follows p.calling p.called) idle.forth f)
 both_left p idle (inr f) = let b = follows_left p.called p.calling (subst (Follows p.called p.calling) idle.back f) in (b.1, b.0)
-
-tick_left : (ticks : Bool) (now : ℕ) (e : End) → HasLeft e.stage → HasLeft (tick_of ticks now e).stage
-tick_left true now e left = stays_left now e Ticked left
-tick_left false now e left = left
 
 forth_parting : (p : Pair) (l : List Sent) → p.forth ≡ l → AreParting p → AreParting (comes_forth p l)
 forth_parting p [] e f = f

@@ -8,12 +8,12 @@ use Rattle.tp4_number.specs.declared.got.Got.TheVariants.{Kept, Old, Outside, To
 use Rattle.tp4_number.specs.declared.piece.Piece.{Piece}
 use Rattle.tp4_number.specs.Number.{whole}
 use Rattle.tp4_number.proofs.Past.{if_kept}
-use Rattle.tp4_flow.specs.Half.{Half, Received, aks, ak, dt_arrival, half_after, half_granted, taken_dt, taken_ed}
+use Rattle.tp4_flow.specs.ReceivingHalf.{Half, Received, aks, ak, dt_arrival, half_after, half_granted, taken_dt, taken_ed}
 use Rattle.tp4_flow.specs.declared.rules.Life.{Life}
 use Rattle.tp4_flow.specs.declared.rules.Life.TheVariants.{Goes, Exhausted}
 use Rattle.tpdu.specs.declared.service.GoneCause.TheVariants.{Exhausted as Spent, Inactive}
 use Rattle.tp4_flow.specs.declared.step.Sent.{Sent}
-use Rattle.tp4_sending.specs.FlowSender.{Sendings, acknowledged, at, life_of, submitted, ticked, urged, urgent_done}
+use Rattle.tp4_sending.specs.SendingHalf.{Sendings, acknowledged, at, life_of, submitted, ticked, urged, urgent_done}
 use Rattle.tp4_sending.specs.Pieces.{again, once}
 use Rattle.tp4_sending.specs.declared.tries.Tries.{Tries}
 use Rattle.tp4_conn.specs.declared.call.UserCall.{UserCall}

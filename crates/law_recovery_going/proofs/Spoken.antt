@@ -5,8 +5,8 @@ use Rattle.tp4_number.specs.Traffic.{Answer, Dt_comes, Grant, Rules, Tick, Traff
 use Rattle.tp4_number.proofs.Accounts.{none}
 use Rattle.tp4_number.proofs.Sound.{Sound}
 use Rattle.tp4_number.proofs.Steps.{all_sound}
-use Rattle.tp4_flow.specs.Half.{Half}
-use Rattle.tp4_sending.specs.FlowSender.{FlowSender}
+use Rattle.tp4_flow.specs.ReceivingHalf.{Half}
+use Rattle.tp4_sending.specs.SendingHalf.{FlowSender}
 use Rattle.tp4_sending.specs.declared.tries.Tries.{Tries}
 use Rattle.law_tp4_recovery.specs.Recovering.{Dt_arrives, Grants, IsLevel, Late_dt, Move, Moves, Repeats, Resends, Road, Sends, Ticks, moved}
 use Rattle.law_tp4_recovery.proofs.Chains.{views_recover}

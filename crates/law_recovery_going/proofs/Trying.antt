@@ -5,7 +5,7 @@ use Rattle.tp4_number.specs.Number.{near}
 use Rattle.tp4_number.proofs.Past.{if_kept}
 use Rattle.tp4_flow.specs.declared.rules.Life.{Life}
 use Rattle.tp4_flow.specs.declared.rules.Life.TheVariants.{Goes, Exhausted}
-use Rattle.tp4_sending.specs.FlowSender.{FlowSender, Sendings, block_in, rule_allows, is_noted, one_urgent, sent_normal, has_next, normals, is_urgent, normals_where, new_sends, submitted, urged, acknowledged, is_taken, acknowledged_to, is_outstanding, urgent_done, resends, resends_urgent_as, life_of, ticked_as, ticked}
+use Rattle.tp4_sending.specs.SendingHalf.{FlowSender, Sendings, block_in, rule_allows, is_noted, one_urgent, sent_normal, has_next, normals, is_urgent, normals_where, new_sends, submitted, urged, acknowledged, is_taken, acknowledged_to, is_outstanding, urgent_done, resends, resends_urgent_as, life_of, ticked_as, ticked}
 use Rattle.tp4_sending.specs.Pieces.{end_of, is_due, again, once, resent}
 use Rattle.tp4_sending.specs.declared.tries.Tries.{Tries}
 

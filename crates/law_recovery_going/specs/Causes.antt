@@ -2,7 +2,7 @@
 use Rattle.std.specs.Prelude.{◌≡◌, ◌⊎◌, ◌≤◌, ℕ, ◌+◌, Some, Contains}
 use Rattle.tpdu.specs.declared.service.GoneCause.{GoneCause}
 use Rattle.tpdu.specs.declared.service.GoneCause.TheVariants.{Exhausted, Inactive}
-use Rattle.tp4_sending.specs.FlowSender.{FlowSender}
+use Rattle.tp4_sending.specs.SendingHalf.{FlowSender}
 use Rattle.tp4_sending.specs.declared.tries.Tries.{Tries}
 use Rattle.tp4_conn.specs.declared.states.InOpened.{InOpened}
 use Rattle.tp4_conn.specs.declared.timers.Timers.{Timers}

@@ -5,7 +5,7 @@ use Rattle.tpdu.specs.declared.tpdu.Tpdu.{Tpdu}
 use Rattle.tpdu.specs.declared.tpdu.Tpdu.TheVariants.{Dt, Ed}
 use Rattle.tp4_number.specs.Number.{whole}
 use Rattle.tp4_number.specs.declared.got.Got.TheVariants.{TooLarge}
-use Rattle.tp4_flow.specs.Half.{dt_arrival}
+use Rattle.tp4_flow.specs.ReceivingHalf.{dt_arrival}
 use Rattle.tpdu.specs.declared.service.GoneCause.{GoneCause}
 use Rattle.tp4_flow.specs.declared.step.Sent.{Sent}
 use Rattle.tp4_conn.specs.declared.call.UserCall.{UserCall}

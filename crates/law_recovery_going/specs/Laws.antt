@@ -1,9 +1,9 @@
 -- Why and when one of two Opened ends leaves since when nothing is lost between them (X.224, class 4 state tables; retransmission on time-out, inactivity control).
 use Rattle.std.specs.Prelude.{◌≡◌, ◌⊎◌, ◌<◌, ◌≤◌, ℕ, ◌+◌, max, Bool, List, [], Some}
-use Rattle.tp4_flow.specs.Half.{Half}
+use Rattle.tp4_flow.specs.ReceivingHalf.{Half}
 use Rattle.tp4_number.specs.Traffic.{Dt_comes, Event, IsFit, Leads as LeadsOn, May, Rules, Traffic, start}
 use Rattle.tp4_number.specs.declared.piece.Piece.{Piece}
-use Rattle.tp4_sending.specs.FlowSender.{FlowSender}
+use Rattle.tp4_sending.specs.SendingHalf.{FlowSender}
 use Rattle.tp4_sending.specs.Pieces.{cut_at}
 use Rattle.tp4_conn.specs.declared.states.InOpened.{InOpened}
 use Rattle.tp4_conn.specs.declared.timers.Timers.{Timers}

@@ -33,7 +33,8 @@ use Rattle.tp4_conn.specs.declared.states.StateData.TheVariants as stages
 use Rattle.tp4_conn.specs.declared.timers.Timers.{Timers}
 use Rattle.tp4_entity.specs.Association.{met, met_by, refusal, unmatched}
 use Rattle.tp4_entity.specs.Entity.{Acted, Entity, at, end_at, moved, with_end}
-use Rattle.tp4_entity.specs.References.{is_free_place, is_silent}
+use Rattle.tp4_entity.specs.References.{is_free_place}
+use Rattle.tp4_entity.specs.Silence.{is_silent}
 use Rattle.tp4_entity.specs.Step.{call_of, connecting, is_due}
 use Rattle.tp4_entity.proofs.Standings.{free_least, within}
 use Rattle.law_tp4_history.specs.Tracks.{Whole}
@@ -59,11 +60,13 @@ use Rattle.law_recovery_service.specs.Over.{HasLeftEnd}
 use Rattle.law_recovery_script.proofs.Asking.{at_place}
 use Rattle.law_recovery_script.proofs.Outlasting.{end_keeps}
 use Rattle.law_recovery_halves.proofs.Beside.{Becomes, becomes, deed_keeps, dr_read, end_still, half_on, half_still, stands_on, still_half}
-use Rattle.law_recovery_halves.proofs.Deeds.{AreSame, Begins, Deed, DoesRow, Heard, HearsFirst, IsKept, New, Over, Row}
+use Rattle.law_recovery_script.proofs.Deeds.{AreSame, Begins, HearsFirst}
+use Rattle.law_recovery_halves.proofs.Deeds.{Deed, DoesRow, Heard, IsKept, New, Over, Row}
 use Rattle.law_recovery_halves.proofs.Parting.{GoesOut, IsNotClosing, Out, Parts, Same, and_false, cc_taken, closing_knows, left_goes, own_is as partner_own, parting_takes, partner_is as partner_knows, sums_are, to_is as partner_to, unasked}
 use Rattle.law_recovery_halves.proofs.Partner.{IsHalf, IsStill, Parties, known, partner_stands, still_goes}
 use Rattle.law_recovery_halves.proofs.Rows.{HasAccepted, IsAlone, IsCc, IsDr, StaysAccepted, StaysAsked, accepted_alone, asked_alone, dr_row, opened_alone}
 use Rattle.law_recovery_service.specs.Halves.{KnowsPartner}
+use Rattle.law_recovery_halves.proofs.Quiet.{cc_plain}
 
 -- ---- what stands at the place of the partner
 
@@ -152,24 +155,14 @@ tried_on : (bound now next : ℕ) (p : Parties) (posts later : List Post) (agree
     → IsTriedBy bound now p posts agreed stage → IsTriedBy bound next p later agreed stage
 tried_on bound now next p posts later agreed (stages.AkWait v) low on (inl early) = inl early
 tried_on bound now next p posts later agreed (stages.AkWait v) low on (inr awaited) = inr (omega (arith, low, awaited.0), on awaited.1)
-tried_on bound now next p posts later agreed (stages.CrWait c) low on tried = tt
-tried_on bound now next p posts later agreed (stages.WaitBeforeClose c) low on tried = tt
-tried_on bound now next p posts later agreed (stages.UserWait c) low on tried = tt
-tried_on bound now next p posts later agreed (stages.Opened c) low on tried = tt
-tried_on bound now next p posts later agreed (stages.Closing c) low on tried = tt
-tried_on bound now next p posts later agreed (stages.Frozen c) low on tried = tt
+tried_on bound now next p posts later agreed stage low on tried = tt
 
 closed_on : (bound now next : ℕ) (p : Parties) (agreed : Option Options) (posts later : List Post) (b : EndRecord) (stage : StateData) → next ≡ now → (IsAnswered p agreed posts → IsAnswered p agreed later)
     → IsClosedBy bound now p agreed posts b stage → IsClosedBy bound next p agreed later b stage
 closed_on bound now next p agreed posts later b (stages.Closing c) same on (inl early) = inl (early.0, omega (arith, same, early.1))
 closed_on bound now next p agreed posts later b (stages.Closing c) same on (inr (inl answered)) = inr (inl (on answered))
 closed_on bound now next p agreed posts later b (stages.Closing c) same on (inr (inr other)) = inr (inr other)
-closed_on bound now next p agreed posts later b (stages.CrWait c) same on closed = tt
-closed_on bound now next p agreed posts later b (stages.WaitBeforeClose c) same on closed = tt
-closed_on bound now next p agreed posts later b (stages.UserWait c) same on closed = tt
-closed_on bound now next p agreed posts later b (stages.AkWait c) same on closed = tt
-closed_on bound now next p agreed posts later b (stages.Opened c) same on closed = tt
-closed_on bound now next p agreed posts later b (stages.Frozen c) same on closed = tt
+closed_on bound now next p agreed posts later b stage same on closed = tt
 
 -- one tick later, where it is not due
 closed_longer : (bound now next : ℕ) (p : Parties) (agreed : Option Options) (posts : List Post) (b : EndRecord) (stage : StateData) → next ≡ now + 1 → is_due now (Some (record { base = b; stage = stage })) ≡ false
@@ -177,21 +170,11 @@ closed_longer : (bound now next : ℕ) (p : Parties) (agreed : Option Options) (
 closed_longer bound now next p agreed posts b (stages.Closing c) same idle (inl early) =
     let first = leb-false (min (c.from + span b.timers) (c.last + b.timers.t1)) now idle in inl (early.0, omega (arith, same, first, early.0))
 closed_longer bound now next p agreed posts b (stages.Closing c) same idle (inr more) = inr more
-closed_longer bound now next p agreed posts b (stages.CrWait c) same idle closed = tt
-closed_longer bound now next p agreed posts b (stages.WaitBeforeClose c) same idle closed = tt
-closed_longer bound now next p agreed posts b (stages.UserWait c) same idle closed = tt
-closed_longer bound now next p agreed posts b (stages.AkWait c) same idle closed = tt
-closed_longer bound now next p agreed posts b (stages.Opened c) same idle closed = tt
-closed_longer bound now next p agreed posts b (stages.Frozen c) same idle closed = tt
+closed_longer bound now next p agreed posts b stage same idle closed = tt
 
 pub not_closed : (bound now : ℕ) (p : Parties) (agreed : Option Options) (posts : List Post) (b : EndRecord) (stage : StateData) → IsNotClosing stage → IsClosedBy bound now p agreed posts b stage
 not_closed bound now p agreed posts b (stages.Closing c) out = absurd out
-not_closed bound now p agreed posts b (stages.CrWait c) out = tt
-not_closed bound now p agreed posts b (stages.WaitBeforeClose c) out = tt
-not_closed bound now p agreed posts b (stages.UserWait c) out = tt
-not_closed bound now p agreed posts b (stages.AkWait c) out = tt
-not_closed bound now p agreed posts b (stages.Opened c) out = tt
-not_closed bound now p agreed posts b (stages.Frozen c) out = tt
+not_closed bound now p agreed posts b stage out = tt
 
 -- a DR ends an end in AkWait, where it has the checksum that this asks for
 dr_ends_it : (now : ℕ) (b : EndRecord) (v : InAkWait) (destination source reason : ℕ) (octets : List ℕ) (sum : Bool) → (sum_agreed b.agreed && not sum) ≡ false
@@ -232,10 +215,6 @@ cc_answered now e from (wires.Cc credit destination source width calling called 
     by_place None stands = back
     by_place (Some o) stands = by_match o (is_match o.base o.stage from t) stands refl
 cc_answered now e from t sum reference target is named to none = absurd is
-
-cc_plain : (t : WireTpdu) → IsCc t → has_number (kind_for t) ≡ false
-cc_plain (wires.Cc credit destination source width calling called size preferred extra version classes ack_time text) is = refl
-cc_plain other is = absurd is
 
 module _ {C : Type 0} (link : C → Link (List ℕ)) (names : List (List ℕ)) (timers : Timers) (going : Going) (t0 bound : ℕ) (p : Parties) where
   -- ---- no entity acts
@@ -412,7 +391,7 @@ module _ {C : Type 0} (link : C → Link (List ℕ)) (names : List (List ℕ)) (
 
     -- ---- a row
 
-    module _ (d : DoesRow link old new posts later) (n : IsHalf t0 p (journal ++ made) new later) where
+    module _ (d : DoesRow link old new made posts later) (n : IsHalf t0 p (journal ++ made) new later) where
       abbrev m : Moved
       m = stepped whole (link old.carrier).clock d.end d.event
 
@@ -548,12 +527,7 @@ module _ {C : Type 0} (link : C → Link (List ℕ)) (names : List (List ℕ)) (
             not_closing : (u : End) → end_at k.half.far p.far_reference ≡ Some u → (stage : StateData) → u.stage ≡ stage
                 → IsClosedBy bound (link new.carrier).clock p n.end.base.agreed later u.base stage
             not_closing u stands (stages.Closing c) closes = absurd (unasked link names timers w journal old explains t0 p posts k.half u stands c since closes is)
-            not_closing u stands (stages.CrWait c) closes = tt
-            not_closing u stands (stages.WaitBeforeClose c) closes = tt
-            not_closing u stands (stages.UserWait c) closes = tt
-            not_closing u stands (stages.AkWait c) closes = tt
-            not_closing u stands (stages.Opened c) closes = tt
-            not_closing u stands (stages.Frozen c) closes = tt
+            not_closing u stands stage closes = tt
 
             tries_low : (on : HasAccepted (base_at (link old.carrier).clock d.end.base) (stepped whole (link old.carrier).clock (record { base = d.end.base; stage = stages.UserWait since }) d.event))
                 → on.next.tries.last ≤ (link new.carrier).clock
@@ -591,17 +565,9 @@ module _ {C : Type 0} (link : C → Link (List ℕ)) (names : List (List ℕ)) (
 
             none : (stage : StateData) → (IsAccepted stage → ⊥) → IsTriedBy bound (link new.carrier).clock p later n.end.base.agreed stage
             none (stages.AkWait c) never = absurd (never tt)
-            none (stages.CrWait c) never = tt
-            none (stages.WaitBeforeClose c) never = tt
-            none (stages.UserWait c) never = tt
-            none (stages.Opened c) never = tt
-            none (stages.Closing c) never = tt
-            none (stages.Frozen c) never = tt
-        by_opened same (stages.CrWait c) is = absurd (subst (IsStill t0) is k.half.still)
-        by_opened same (stages.WaitBeforeClose c) is = absurd (subst (IsStill t0) is k.half.still)
+            none stage never = tt
         by_opened same (stages.UserWait since) is = by_asked since is
-        by_opened same (stages.Closing c) is = absurd (subst (IsStill t0) is k.half.still)
-        by_opened same (stages.Frozen c) is = absurd (subst (IsStill t0) is k.half.still)
+        by_opened same stage is = absurd (subst (IsStill t0) is k.half.still)
 
         -- its partner is another end
         elsewhere : (v : End) → p.far_system ≡ d.system → d.entity ≡ k.half.far → end_at changed p.far_reference ≡ Some v → end_at k.half.far p.far_reference ≡ Some v
@@ -625,7 +591,7 @@ module _ {C : Type 0} (link : C → Link (List ℕ)) (names : List (List ℕ)) (
 
     -- ---- a new end
 
-    begins_keeps : Begins link old new posts later → IsHalf t0 p (journal ++ made) new later → IsAnswerable link t0 bound p (journal ++ made) new later
+    begins_keeps : Begins link old new made posts later → IsHalf t0 p (journal ++ made) new later → IsAnswerable link t0 bound p (journal ++ made) new later
     begins_keeps d n =
         answerable_same d.system d.entity A.entity d.there d.entities refl d.clock refl n (end_same d.system d.entity A.entity d.there d.entities refl d.clock refl n elsewhere)
         there_now (λ accepted. more_answered (posted d.system A.tpdus) d.later_is) (tried_more (posted d.system A.tpdus) d.later_is d.clock)
@@ -658,7 +624,7 @@ module _ {C : Type 0} (link : C → Link (List ℕ)) (names : List (List ℕ)) (
 
     -- ---- what comes
 
-    module _ (d : HearsFirst link old new posts later) (n : IsHalf t0 p (journal ++ made) new later) where
+    module _ (d : HearsFirst link old new made posts later) (n : IsHalf t0 p (journal ++ made) new later) where
       abbrev R : WireTpdu → Bool → Type 0
       R t sum = IsReadAs d.acts.entity d.post.sent (t, sum)
 
@@ -666,7 +632,7 @@ module _ {C : Type 0} (link : C → Link (List ℕ)) (names : List (List ℕ)) (
       e = at (link old.carrier).clock d.acts.entity
 
       met_is : IsMet R (link old.carrier).clock (at (link old.carrier).clock d.acts.entity) d.acts.sender.own d.acts.acted
-      met_is = met_so link names timers w journal old explains new d.post d.rest d.made d.acts
+      met_is = met_so link names timers w journal old explains new d.post d.rest made d.acts
 
       silent_same : is_silent (link old.carrier).clock d.acts.acted.entity ≡ is_silent (link old.carrier).clock d.acts.entity
       silent_same = silent_like (link old.carrier).clock d.acts.entity d.acts.acted.entity
@@ -861,10 +827,7 @@ module _ {C : Type 0} (link : C → Link (List ℕ)) (names : List (List ℕ)) (
           some_there (stages.Closing c) is left = due_by c is
           some_there (stages.WaitBeforeClose c) is left = parted c is
           some_there (stages.Frozen when) is left = frozen_there when is
-          some_there (stages.CrWait c) is left = absurd left
-          some_there (stages.UserWait c) is left = absurd left
-          some_there (stages.AkWait c) is left = absurd left
-          some_there (stages.Opened c) is left = absurd left
+          some_there stage is left = absurd left
 
         cc_comes : Tried
         cc_comes = by (end_at k.half.far p.far_reference) refl
@@ -890,12 +853,7 @@ module _ {C : Type 0} (link : C → Link (List ℕ)) (names : List (List ℕ)) (
             | inr later_on ↦ inr (omega (arith, low, d.acts.clock), Confirms post (more post later_on) own)
           ]
           by low (Answers answered) = inr (omega (arith, low, d.acts.clock), Answers (answered_still accepted answered))
-      tried_heard (stages.CrWait c) is = tt
-      tried_heard (stages.WaitBeforeClose c) is = tt
-      tried_heard (stages.UserWait c) is = tt
-      tried_heard (stages.Opened c) is = tt
-      tried_heard (stages.Closing c) is = tt
-      tried_heard (stages.Frozen c) is = tt
+      tried_heard stage is = tt
 
       -- an end that takes it
       module _ (t : WireTpdu) (sum : Bool) (reference : ℕ) (o : End) (read : R t sum) (target : destination_of t ≡ Some reference) (stands : end_at d.acts.entity reference ≡ Some o)
@@ -958,7 +916,7 @@ module _ {C : Type 0} (link : C → Link (List ℕ)) (names : List (List ℕ)) (
           answerable_same d.acts.system d.acts.entity d.acts.acted.entity d.acts.there d.acts.entities d.acts.kept d.acts.clock silent_same n heard_end there_heard answered_still
           (tried_heard k.half.end.stage refl)
 
-    answerable_on : (deed : Deed link old new posts later) → IsHalf t0 p (journal ++ made) new later → IsAnswerable link t0 bound p (journal ++ made) new later
+    answerable_on : (deed : Deed link old new made posts later) → IsHalf t0 p (journal ++ made) new later → IsAnswerable link t0 bound p (journal ++ made) new later
     answerable_on (Row d) n = row_keeps_on d n
     answerable_on (New d) n = begins_keeps d n
     answerable_on (Heard d) n = heard_keeps d n
@@ -988,7 +946,7 @@ module _ {C : Type 0} (link : C → Link (List ℕ)) (names : List (List ℕ)) (
           (λ v there closed. closed_longer bound (link old.carrier).clock (link new.carrier).clock p k.half.end.base.agreed [] v.base v.stage clock
           (none_due (link old.carrier).clock k.half.far p.far_reference v (waiting p.far_system k.half.far k.half.far_placed) there) closed)
 
-      deed : (w : Whole) (journal made : List JournalEvent) (old new : World C) (posts later : List Post) → Explains link names timers w journal old → Deed link old new posts later
+      deed : (w : Whole) (journal made : List JournalEvent) (old new : World C) (posts later : List Post) → Explains link names timers w journal old → Deed link old new made posts later
           → Keeps link t0 bound p journal old posts → Keeps link t0 bound p (journal ++ made) new later
       deed w journal made old new posts later explains does (inl left) = inl (end_keeps old new p.x (deed_keeps link names timers going t0 p w journal made old new posts later explains does) left)
       deed w journal made old new posts later explains does (inr k) =

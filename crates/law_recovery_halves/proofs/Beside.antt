@@ -24,7 +24,6 @@ use Rattle.tp4_conn.specs.declared.states.InOpened.{InOpened}
 use Rattle.tp4_conn.specs.declared.states.StateData.{StateData}
 use Rattle.tp4_conn.specs.declared.states.StateData.TheVariants as stages
 use Rattle.tp4_conn.specs.declared.timers.Timers.{Timers}
-use Rattle.tp4_entity.specs.Association.{met}
 use Rattle.tp4_entity.specs.Entity.{Acted, Entity, at, end_at, moved, with_end}
 use Rattle.tp4_entity.specs.References.{is_free_place}
 use Rattle.tp4_entity.specs.Step.{call_of, connecting}
@@ -54,15 +53,17 @@ use Rattle.law_recovery_walk.proofs.Speaking.{row_speaks}
 use Rattle.law_recovery_walk.proofs.Waiting.{posted_each}
 use Rattle.law_recovery_request.proofs.Coming.{met_so}
 use Rattle.law_recovery_request.proofs.Meeting.{IsMet, Makes, Stays, Takes}
-use Rattle.law_recovery_service.specs.Over.{HasLeftAt, HasLeftEnd, KeepsLeft}
+use Rattle.law_recovery_service.specs.Over.{HasLeftEnd, KeepsLeft}
 use Rattle.law_recovery_script.proofs.Asking.{at_place}
-use Rattle.law_recovery_script.proofs.Outlasting.{end_keeps, left_on, made_so, met_kind, row_stays}
-use Rattle.law_recovery_script.proofs.Outlasting as outlasting
-use Rattle.law_recovery_halves.proofs.Deeds.{AreSame, Begins, Deed, DoesRow, Heard, HearsFirst, IsKept, New, Over, Row}
+use Rattle.law_recovery_script.proofs.Outlasting.{end_keeps, made_so, row_stays}
+use Rattle.law_recovery_script.proofs.Deeds.{AreSame, Begins, HearsFirst}
+use Rattle.law_recovery_halves.proofs.Deeds.{Deed, DoesRow, Heard, IsKept, New, Over, Row}
 use Rattle.law_recovery_halves.proofs.Partner.{IsHalf, IsQuiet, IsStill, Parties, known, partner_stands, still_goes}
 use Rattle.law_recovery_halves.proofs.Quiet.{Apart, all_of, all_quiet, answers_quiet, both_of, dr_plain, from_is, other_quiet, row_quiet, sources, taking_quiet}
 use Rattle.law_recovery_halves.proofs.Rows.{AreFlow, HasAccepted, IsAlone, IsDr, IsFlow, IsParting, StaysAccepted, StaysAsked, StaysOpened, accepted_alone, asked_alone, dr_row, left_alone, opened_alone}
 use Rattle.law_recovery_service.specs.Halves.{KnowsPartner}
+use Rattle.law_recovery_script.proofs.Rowing.{frozen_of}
+use Rattle.law_recovery_script.proofs.Staying.{begins_keeps, heard_keeps, over_keeps, row_keeps, same_keeps}
 
 -- it has left, or stands so
 abbrev pub Holds : {C : Type 0} → ℕ → Parties → List JournalEvent → World C → List Post → Type 0
@@ -81,15 +82,6 @@ flow_names (wires.Cr credit source width calling called size preferred extra ver
 flow_names (wires.Cc credit destination source width calling called size preferred extra version classes ack_time text) r flow names = flow
 flow_names (wires.Dr destination source reason info text) r flow names = flow
 flow_names other r flow names = names
-
-frozen_of : (stage : StateData) (when : ℕ) → stop_of stage ≡ Some when → stage ≡ stages.Frozen when
-frozen_of (stages.CrWait w) when is = absurd (none-some when is)
-frozen_of (stages.WaitBeforeClose w) when is = absurd (none-some when is)
-frozen_of (stages.UserWait since) when is = absurd (none-some when is)
-frozen_of (stages.AkWait w) when is = absurd (none-some when is)
-frozen_of (stages.Opened o) when is = absurd (none-some when is)
-frozen_of (stages.Closing c) when is = absurd (none-some when is)
-frozen_of (stages.Frozen at) when is = ap (λ (n : ℕ). stages.Frozen n) (same_Some at when is)
 
 -- a frozen end does nothing by its user or its timers
 frozen_alone : (now : ℕ) (e : End) (event : Event) (when : ℕ) → e.stage ≡ stages.Frozen when → IsAlone event → (stepped whole now e event).tpdus ≡ []
@@ -152,28 +144,13 @@ module _ {C : Type 0} (link : C → Link (List ℕ)) (names : List (List ℕ)) (
     far = h.far;
     far_placed = ap (λ (ps : List Placed). entity_at ps p.far_system) same.entities ∙ h.far_placed;
     far_own = h.far_own;
-    left = left_still old new same p.y p.far_system p.far_reference h.left;
+    left = same_keeps old new same p.y p.far_system p.far_reference h.left;
     apart = h.apart;
     quiet = h.quiet;
   }
-    where
-      left_still : (old new : World C) → AreSame old new → (x s r : ℕ) → HasLeftAt old x s r → HasLeftAt new x s r
-      left_still old new same x s r l = record {
-        made = ap (λ (es : List EndAt). end_numbered es x) same.ends ∙ l.made;
-        left = λ entity e at stands number.
-            l.left entity e (sym (ap (λ (ps : List Placed). entity_at ps s) same.entities) ∙ at) stands (sym (ap (λ (es : List EndAt). latest es s r) same.ends) ∙ number);
-      }
 
   pub end_still : (old new : World C) → AreSame old new → HasLeftEnd old p.x → HasLeftEnd new p.x
-  end_still old new same h = record {
-    system = h.system;
-    reference = h.reference;
-    at = record {
-      made = ap (λ (es : List EndAt). end_numbered es p.x) same.ends ∙ h.at.made;
-      left = λ entity e at stands number.
-          h.at.left entity e (sym (ap (λ (ps : List Placed). entity_at ps h.system) same.entities) ∙ at) stands (sym (ap (λ (es : List EndAt). latest es h.system h.reference) same.ends) ∙ number);
-    };
-  }
+  end_still old new same h = end_keeps old new p.x (same_keeps old new same) h
 
   holds_still : (journal made : List JournalEvent) (old new : World C) (posts : List Post) → AreSame old new → Holds t0 p journal old posts → Holds t0 p (journal ++ made) new posts
   holds_still journal made old new posts same (inl left) = inl (end_still old new same left)
@@ -186,32 +163,11 @@ module _ {C : Type 0} (link : C → Link (List ℕ)) (names : List (List ℕ)) (
     now = (link old.carrier).clock
 
     -- an end that had left has left
-    pub deed_keeps : Deed link old new posts later → KeepsLeft old new
-    deed_keeps (Row d) =
-        left_on old new (link old.carrier).clock d.system d.entity (with_end (at (link old.carrier).clock d.entity) d.reference d.place) d.there d.entities
-        (outlasting.Row d.reference d.end d.event d.place d.stands d.place_is refl
-        (d.ends ∙ row_stays link names timers w journal old explains d.system d.entity d.there d.reference d.end d.event d.stands))
-    deed_keeps (New d) =
-        let place : Option End = Some (end_of (connected (link old.carrier).clock (call_of d.entity d.reference d.request))) in
-        left_on old new (link old.carrier).clock d.system d.entity (with_end (at (link old.carrier).clock d.entity) d.reference place) d.there d.entities
-        (outlasting.New d.reference place (free_least (link old.carrier).clock d.reference d.entity d.free).least refl d.ends)
-    deed_keeps (Heard d) =
-        let a = d.acts in
-        elim a.heard.any [
-          | inl m ↦
-              left_on old new (link old.carrier).clock a.system a.entity (met whole (link old.carrier).clock (at (link old.carrier).clock a.entity) a.sender.own (m.0, m.1)).entity a.there
-              (a.entities ∙ ap (λ (z : Acted). with_entity old.entities a.system z.entity) m.2)
-              (subst (λ (es : List EndAt). outlasting.Kind (link old.carrier).clock old.ends es a.system a.entity (met whole (link old.carrier).clock (at (link old.carrier).clock a.entity) a.sender.own (m.0, m.1)).entity)
-              (sym (a.ends ∙ ap (λ (z : Acted). ends_after old.ends a.system z.events) m.2))
-              (met_kind link names timers w journal old explains a.system a.entity a.there a.sender.own m.0 m.1))
-          | inr (inl bad) ↦
-              left_on old new (link old.carrier).clock a.system a.entity (at (link old.carrier).clock a.entity) a.there (a.entities ∙ ap (λ (z : Acted). with_entity old.entities a.system z.entity) bad.2)
-              (outlasting.Same refl (a.ends ∙ ap (λ (z : Acted). ends_after old.ends a.system z.events) bad.2))
-          | inr (inr silent) ↦
-              left_on old new (link old.carrier).clock a.system a.entity (at (link old.carrier).clock a.entity) a.there (a.entities ∙ ap (λ (z : Acted). with_entity old.entities a.system z.entity) silent)
-              (outlasting.Same refl (a.ends ∙ ap (λ (z : Acted). ends_after old.ends a.system z.events) silent))
-        ]
-    deed_keeps (Over d) = left_on old new (link old.carrier).clock d.system d.entity (at (link old.carrier).clock d.entity) d.there d.entities (outlasting.Same refl d.ends)
+    pub deed_keeps : Deed link old new made posts later → KeepsLeft old new
+    deed_keeps (Row d) = row_keeps link names timers w journal old explains new d.system d.entity d.there d.reference d.end d.event d.place d.stands d.place_is d.entities d.ends
+    deed_keeps (New d) = begins_keeps link old new made posts later d
+    deed_keeps (Heard d) = heard_keeps link names timers w journal old explains new d.post made d.acts
+    deed_keeps (Over d) = over_keeps link old new made posts later d
 
     module _ (h : IsHalf t0 p journal old posts) (keeps : KeepsLeft old new) where
       -- the number of the end, and that it was made
@@ -270,7 +226,7 @@ module _ {C : Type 0} (link : C → Link (List ℕ)) (names : List (List ℕ)) (
 
       -- ---- a row by a user or a timer
 
-      module _ (d : DoesRow link old new posts later) where
+      module _ (d : DoesRow link old new made posts later) where
         abbrev m : Moved
         m = stepped whole (link old.carrier).clock d.end d.event
 
@@ -533,11 +489,8 @@ module _ {C : Type 0} (link : C → Link (List ℕ)) (names : List (List ℕ)) (
               by : (stage : StateData) → h.end.stage ≡ stage → HasLeftEnd new p.x ⊎ IsHalf t0 p (journal ++ made) new later
               by (stages.Opened o) is = by_opened o is
               by (stages.AkWait v) is = by_accepted v is
-              by (stages.CrWait c) is = absurd (subst (IsStill t0) is h.still)
-              by (stages.WaitBeforeClose c) is = absurd (subst (IsStill t0) is h.still)
               by (stages.UserWait since) is = by_asked since is
-              by (stages.Closing c) is = absurd (subst (IsStill t0) is h.still)
-              by (stages.Frozen c) is = absurd (subst (IsStill t0) is h.still)
+              by stage is = absurd (subst (IsStill t0) is h.still)
 
         row_on : Holds t0 p (journal ++ made) new later
         row_on = elim (at_place d.system d.reference p.system p.reference) [
@@ -547,7 +500,7 @@ module _ {C : Type 0} (link : C → Link (List ℕ)) (names : List (List ℕ)) (
 
       -- ---- a new end
 
-      begins_on : Begins link old new posts later → Holds t0 p (journal ++ made) new later
+      begins_on : Begins link old new made posts later → Holds t0 p (journal ++ made) new later
       begins_on d =
           let f = free_least (link old.carrier).clock d.reference d.entity d.free in
           let A : Acted = connecting (link old.carrier).clock d.entity d.reference d.request in
@@ -572,18 +525,18 @@ module _ {C : Type 0} (link : C → Link (List ℕ)) (names : List (List ℕ)) (
 
       -- ---- what comes
 
-      module _ (d : HearsFirst link old new posts later) where
-        abbrev a : HasActed link old new d.post d.made
+      module _ (d : HearsFirst link old new made posts later) where
+        abbrev a : HasActed link old new d.post made
         a = d.acts
 
         abbrev R : WireTpdu → Bool → Type 0
         R t sum = IsReadAs d.acts.entity d.post.sent (t, sum)
 
         came : IsMet R (link old.carrier).clock (at (link old.carrier).clock d.acts.entity) d.acts.sender.own d.acts.acted
-        came = met_so link names timers w journal old explains new d.post d.rest d.made d.acts
+        came = met_so link names timers w journal old explains new d.post d.rest made d.acts
 
         all : AllByRecursion (IsQuiet p) (d.post ∷ d.rest)
-        all = all_quiet link names timers w journal old explains going t0 p posts h new d.post d.rest d.made d.posts_are d.acts
+        all = all_quiet link names timers w journal old explains going t0 p posts h new d.post d.rest made d.posts_are d.acts
 
         heard_quiet : AllByRecursion (Apart link names timers w journal old explains going t0 p posts h d.acts.system) d.acts.acted.tpdus → AllByRecursion (IsQuiet p) later
         heard_quiet sends =
@@ -614,7 +567,7 @@ module _ {C : Type 0} (link : C → Link (List ℕ)) (names : List (List ℕ)) (
               ∙ at_other (at (link old.carrier).clock d.acts.entity) reference p.reference (Some (end_of n)) (within d.acts.entity reference o stands).least (λ same. apart (sym here) (sym same)))
               number_took
               (subst (AllByRecursion (Apart link names timers w journal old explains going t0 p posts h d.acts.system)) (sym (ap (λ (z : Acted). z.tpdus) is))
-              (taking_quiet link names timers w journal old explains going t0 p posts h new d.post d.rest d.made d.posts_are d.acts t sum reference o read target stands match apart))
+              (taking_quiet link names timers w journal old explains going t0 p posts h new d.post d.rest made d.posts_are d.acts t sum reference o read target stands match apart))
 
           module _ (here : d.acts.system ≡ p.system) (same : reference ≡ p.reference) where
             owner_here : d.acts.entity ≡ h.entity
@@ -625,7 +578,7 @@ module _ {C : Type 0} (link : C → Link (List ℕ)) (names : List (List ℕ)) (
 
             sender_far : d.post.system ≡ p.far_system
             sender_far = explains.known.apart d.post.system p.far_system d.acts.sender h.far d.acts.sender_there h.far_placed
-                (sym (from_is link names timers w journal old explains going t0 p posts h new d.post d.rest d.made d.posts_are d.acts t sum reference o read target stands match)
+                (sym (from_is link names timers w journal old explains going t0 p posts h new d.post d.rest made d.posts_are d.acts t sum reference o read target stands match)
                 ∙ ap (λ (z : End). z.base.to) it_is ∙ h.to_is ∙ sym h.far_own)
 
             sent_here : IsSentTo p.here p.reference d.post.sent
@@ -668,7 +621,7 @@ module _ {C : Type 0} (link : C → Link (List ℕ)) (names : List (List ℕ)) (
         heard_by (Stays same none answers) =
             inr (stands_heard (λ here. ap (λ (z : Entity). end_at z p.reference) same)
             (ap (λ (es : List EndAt). latest es p.system p.reference) (d.acts.ends ∙ none old.ends d.acts.system) ∙ h.number)
-            (answers_quiet link names timers w journal old explains going t0 p posts h new d.post d.rest d.made d.posts_are d.acts answers))
+            (answers_quiet link names timers w journal old explains going t0 p posts h new d.post d.rest made d.posts_are d.acts answers))
         heard_by (Takes t sum reference o read target stands match is) = elim (at_place d.acts.system reference p.system p.reference) [
           | inl here ↦ took_here t sum reference o read target stands match is here.0 here.1
           | inr apart ↦ inr (took_beside t sum reference o read target stands match is apart)
@@ -687,7 +640,7 @@ module _ {C : Type 0} (link : C → Link (List ℕ)) (names : List (List ℕ)) (
         heard_on : Holds t0 p (journal ++ made) new later
         heard_on = heard_by came
 
-      pub half_on : Deed link old new posts later → Holds t0 p (journal ++ made) new later
+      pub half_on : Deed link old new made posts later → Holds t0 p (journal ++ made) new later
       half_on (Row d) = row_on d
       half_on (New d) = begins_on d
       half_on (Heard d) = heard_on d
@@ -695,7 +648,7 @@ module _ {C : Type 0} (link : C → Link (List ℕ)) (names : List (List ℕ)) (
           inr (stands_same d.system d.entity (at (link old.carrier).clock d.entity) d.there d.entities refl (λ here. refl) (ap (λ (es : List EndAt). latest es p.system p.reference) d.ends ∙ h.number)
           (subst (AllByRecursion (IsQuiet p)) (sym d.later_is) h.quiet))
 
-    holds_on : Deed link old new posts later → Holds t0 p journal old posts → Holds t0 p (journal ++ made) new later
+    holds_on : Deed link old new made posts later → Holds t0 p journal old posts → Holds t0 p (journal ++ made) new later
     holds_on deed (inl left) = inl (end_keeps old new p.x (deed_keeps deed) left)
     holds_on deed (inr h) = half_on h (deed_keeps deed) deed
 

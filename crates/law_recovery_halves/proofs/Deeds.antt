@@ -1,5 +1,5 @@
 -- What happens in a network at once: an entity hears what waits first, an end does a row, or a new one is made; and what is kept by each of these.
-use Rattle.std.specs.Prelude.{◌≡◌, ℕ, ◌+◌, List, [], ◌∷◌, ◌++◌, Option, Some, None}
+use Rattle.std.specs.Prelude.{◌≡◌, ℕ, ◌+◌, List, [], ◌++◌, Option, Some, None}
 use Rattle.osi_base.specs.Link.{Link}
 use Rattle.script_journal.specs.declared.event.Event.{Event as JournalEvent}
 use Rattle.tp4_number.specs.Number.{whole}
@@ -7,26 +7,19 @@ use Rattle.tp4_conn.specs.End.{End, end_of}
 use Rattle.tp4_conn.specs.Living.{IsFit}
 use Rattle.tp4_conn.specs.Proper.{IsProperEvent}
 use Rattle.tp4_conn.specs.Table.{Event, stepped}
-use Rattle.tp4_conn.specs.declared.call.ConnectRequest.{ConnectRequest}
 use Rattle.tp4_conn.specs.declared.timers.Timers.{Timers}
 use Rattle.tp4_entity.specs.Entity.{Entity, at, end_at, with_end}
-use Rattle.tp4_entity.specs.References.{least_free}
-use Rattle.tp4_entity.specs.Step.{connecting}
 use Rattle.law_tp4_history.specs.Tracks.{Whole}
 use Rattle.law_tp4_moves.specs.Moves.{IsSourced, stop_of}
 use Rattle.tp4_world.specs.Telling.{ends_after}
 use Rattle.tp4_world.specs.World.{World, entity_at, with_entity}
 use Rattle.law_tp4_lawful.proofs.Worlds.{Explains}
-use Rattle.law_tp4_ended.proofs.Worlds.{IsFitWorld}
 use Rattle.law_calm_run.proofs.Hall.{AreWaiting, Post, posted}
-use Rattle.law_recovery_walk.proofs.Delivering.{HasActed}
 use Rattle.law_recovery_walk.proofs.Naming.{NamedBy}
 use Rattle.law_recovery_halves.proofs.Rows.{IsAlone}
+use Rattle.law_recovery_script.proofs.Deeds.{AreSame, Begins, HearsFirst, IsOver}
 
-module _ {C : Type 0} (link : C → Link (List ℕ)) (old new : World C) (posts later : List Post) where
-  abbrev now : ℕ
-  now = (link old.carrier).clock
-
+module _ {C : Type 0} (link : C → Link (List ℕ)) (old new : World C) (made : List JournalEvent) (posts later : List Post) where
   -- an end that stands does a row, by its user or its timers. Where it is not frozen by it, it stands there still
   pub record DoesRow : Type 0 where
     pub system : ℕ
@@ -49,54 +42,16 @@ module _ {C : Type 0} (link : C → Link (List ℕ)) (old new : World C) (posts 
     pub clock : (link new.carrier).clock ≡ (link old.carrier).clock
     pub later_is : later ≡ posts ++ posted system (stepped whole (link old.carrier).clock end event).tpdus
 
-  -- a user of a system asks for a connection, and a new end is made
-  pub record Begins : Type 0 where
-    pub system : ℕ
-    pub entity : Entity
-    pub there : entity_at old.entities system ≡ Some entity
-    pub request : ConnectRequest
-    pub reference : ℕ
-    pub free : least_free (link old.carrier).clock entity ≡ Some reference
-    pub entities : new.entities ≡ with_entity old.entities system (connecting (link old.carrier).clock entity reference request).entity
-    pub ends : new.ends ≡ old.ends ++ record { system = system; reference = reference } ∷ []
-    pub clock : (link new.carrier).clock ≡ (link old.carrier).clock
-    pub later_is : later ≡ posts ++ posted system (connecting (link old.carrier).clock entity reference request).tpdus
-
-  -- an entity hears what waits first
-  pub record HearsFirst : Type 0 where
-    pub fit : IsFitWorld link old
-    pub post : Post
-    pub rest : List Post
-    pub posts_are : posts ≡ post ∷ rest
-    pub made : List JournalEvent
-    pub acts : HasActed link old new post made
-    pub later_is : later ≡ rest ++ posted acts.system acts.acted.tpdus
-
-  -- no end of an entity is due
-  pub record IsOver : Type 0 where
-    pub system : ℕ
-    pub entity : Entity
-    pub there : entity_at old.entities system ≡ Some entity
-    pub entities : new.entities ≡ with_entity old.entities system (at (link old.carrier).clock entity)
-    pub ends : new.ends ≡ old.ends
-    pub clock : (link new.carrier).clock ≡ (link old.carrier).clock
-    pub later_is : later ≡ posts
-
   pub data Deed : Type 0 where
     Row : DoesRow → Deed
-    New : Begins → Deed
-    Heard : HearsFirst → Deed
-    Over : IsOver → Deed
-
--- the entities and the ends that were made are the same
-pub record AreSame {C : Type 0} (old new : World C) : Type 0 where
-  pub entities : new.entities ≡ old.entities
-  pub ends : new.ends ≡ old.ends
+    New : Begins link old new made posts later → Deed
+    Heard : HearsFirst link old new made posts later → Deed
+    Over : IsOver link old new made posts later → Deed
 
 -- what holds of a network in which these TPDUs wait holds after all that happens in it, where a history explains it
 pub record IsKept {C : Type 0} (link : C → Link (List ℕ)) (names : List (List ℕ)) (timers : Timers) (P : List JournalEvent → World C → List Post → Type 0) : Type 0 where
   pub still : (journal made : List JournalEvent) (old new : World C) (posts : List Post) → AreSame old new → (link new.carrier).clock ≡ (link old.carrier).clock → P journal old posts → P (journal ++ made) new posts
   pub clocks : (journal made : List JournalEvent) (old new : World C) → AreSame old new → (link new.carrier).clock ≡ (link old.carrier).clock + 1 → AreWaiting (link old.carrier).clock old.entities → P journal old []
       → P (journal ++ made) new []
-  pub deed : (w : Whole) (journal made : List JournalEvent) (old new : World C) (posts later : List Post) → Explains link names timers w journal old → Deed link old new posts later → P journal old posts
+  pub deed : (w : Whole) (journal made : List JournalEvent) (old new : World C) (posts later : List Post) → Explains link names timers w journal old → Deed link old new made posts later → P journal old posts
       → P (journal ++ made) new later

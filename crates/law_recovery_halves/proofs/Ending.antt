@@ -1,19 +1,18 @@
 -- An end that stood half-open beside a partner that had left, after lines that are settled and lose nothing: where it is Opened still, its time of inactivity has not passed.
-use Rattle.std.proofs.Common.{◌≡◌, ◌⊎◌, inl, inr, ℕ, ◌+◌, ◌*◌, ◌<◌, ◌≤◌, ◌==◌, min, nat_le, Bool, true, false, if◌then◌else◌, List, [], ◌++◌, Option, Some, None, refl, sym, ◌∙◌, ap, subst, arith}
-use Rattle.std.specs.Prelude.{option_and_then}
-use Rattle.std.proofs.lemmas.Bool.{eqb-true, leb-false}
-use Rattle.std.proofs.lemmas.Option.{none-some, same_Some}
+use Rattle.std.proofs.Common.{◌≡◌, ◌⊎◌, inl, inr, ℕ, ◌+◌, ◌*◌, ◌<◌, ◌≤◌, min, nat_le, true, false, List, [], ◌++◌, Option, Some, None, refl, sym, ◌∙◌, ap, subst, arith}
+use Rattle.std.proofs.lemmas.Bool.{leb-false}
+use Rattle.std.proofs.lemmas.Option.{same_Some}
 use Rattle.osi_base.specs.Calls.{Call, Keeps as CarrierKeeps}
 use Rattle.osi_base.specs.Link.{Link}
 use Rattle.osi_base.specs.declared.unit.Unit.{Unit as CarriedUnit}
-use Rattle.script_journal.specs.Lawful.{ArePartners}
+use Rattle.script_journal.specs.Partner.{ArePartners}
 use Rattle.script_journal.specs.declared.event.Event.{Event}
 use Rattle.script_lines.specs.declared.line.Line.{Line}
 use Rattle.net_world.specs.Fifo.{IsFifo}
 use Rattle.net_world.specs.Prompt.{IsPrompt}
 use Rattle.tpdu.specs.declared.service.Options.{Options}
 use Rattle.tp4_number.specs.Number.{whole}
-use Rattle.tp4_sending.specs.FlowSender.{due_of}
+use Rattle.tp4_sending.specs.SendingHalf.{due_of}
 use Rattle.tp4_sending.specs.Pieces.{sooner}
 use Rattle.tp4_conn.specs.End.{End}
 use Rattle.tp4_conn.specs.Table.{due}
@@ -30,7 +29,7 @@ use Rattle.law_tp4_history.specs.Journals.{Written}
 use Rattle.law_tp4_history.specs.Tracks.{IsNothing, Whole}
 use Rattle.law_tp4_proper.specs.Rest.{AreInTime, AreProper}
 use Rattle.law_tp4_pair.specs.steps.Standing.{HasLeft}
-use Rattle.tp4_world.specs.World.{World, entity_at, latest}
+use Rattle.tp4_world.specs.World.{World}
 use Rattle.law_tp4_associations.proofs.Dues.{none_due}
 use Rattle.law_tp4_lawful.specs.Called.{AreHonestCalls}
 use Rattle.law_tp4_lawful.proofs.ActsLines.{Flowing}
@@ -42,17 +41,16 @@ use Rattle.law_tp4_lawful.proofs.WorldKnown.{plain_kept}
 use Rattle.law_tp4_lawful.proofs.WorldOutcomes.{one_unit, outcomes}
 use Rattle.law_tp4_lawful.proofs.WorldStarts.{started}
 use Rattle.law_tp4_lawful.proofs.Worlds.{Rests}
-use Rattle.law_calm_run.specs.Service.{end_at_number, end_placed}
+use Rattle.law_calm_run.specs.Service.{end_at_number}
 use Rattle.law_calm_run.proofs.Hall.{Post}
-use Rattle.law_recovery_run.specs.Ordered.{InOrder, IsReady, ReachedFrom, RunsInOrder, hall_of}
+use Rattle.law_recovery_run.specs.Ordered.{InOrder, IsReady, ReachedFrom, RunsInOrder}
 use Rattle.law_recovery_run.proofs.Aiming.{Going}
-use Rattle.law_recovery_run.proofs.Ordered.{HaveRun, is_fifo, keeps_order, runs_ordered, undropped}
+use Rattle.law_recovery_run.proofs.Ordered.{is_fifo, keeps_order}
 use Rattle.law_recovery_service.specs.Recovered.{IsOver}
 use Rattle.law_recovery_walk.specs.Following.{Stands}
-use Rattle.law_recovery_walk.proofs.Coming.{StandsSo}
 use Rattle.law_recovery_walk.proofs.Fitting.{calls_fit}
 use Rattle.law_recovery_service.specs.Over.{HasLeftEnd}
-use Rattle.law_recovery_script.proofs.Numbers.{stands_at}
+use Rattle.law_recovery_script.proofs.Numbers.{stands_at, left_by_number}
 use Rattle.law_recovery_world.specs.Steady.{EndsAreSteady, StageMade}
 use Rattle.law_recovery_request.specs.Requesting.{AreListening}
 use Rattle.law_recovery_request.proofs.Coming.{none_there}
@@ -64,7 +62,9 @@ use Rattle.law_recovery_halves.proofs.Parting.{IsNotClosing}
 use Rattle.law_recovery_halves.proofs.Partner.{IsHalf, IsStill, Parties, partner_number}
 use Rattle.law_recovery_halves.proofs.Past.{HasParted, parted_by}
 use Rattle.law_recovery_halves.proofs.Starting.{half_here, parties}
-use Rattle.law_recovery_halves.proofs.Walking.{HasReached, lines_reach}
+use Rattle.law_recovery_script.proofs.Deeds.{HasReached}
+use Rattle.law_recovery_script.proofs.Starting.{runs_reach}
+use Rattle.law_recovery_halves.proofs.Walking.{kept_along}
 
 -- ---- what is due
 
@@ -76,20 +76,6 @@ sooner_first : (now tick : ℕ) (one other : Option ℕ) → is_due_by now (soon
 sooner_first now tick None other not_due = not_yet now tick other not_due
 sooner_first now tick (Some more) None not_due = let early = leb-false (min tick more) now not_due in omega (arith, early)
 sooner_first now tick (Some more) (Some last) not_due = let early = leb-false (min (min tick more) last) now not_due in omega (arith, early)
-
--- ---- an end that has left, by its number
-
-pub left_by_number : {C : Type 0} (last : World C) (x : ℕ) → HasLeftEnd last x → (e : End) → end_at_number last x ≡ Some e → HasLeft e.stage
-left_by_number {C} last x h e at = by_number (latest last.ends h.system h.reference == x) refl (sym (ap (end_placed last x) h.at.made) ∙ at)
-  where
-    by_entity : (place : Option Entity) → entity_at last.entities h.system ≡ place → latest last.ends h.system h.reference ≡ x → option_and_then (λ (z : Entity). end_at z h.reference) place ≡ Some e → HasLeft e.stage
-    by_entity None there number is = absurd (none-some e is)
-    by_entity (Some entity) there number is = h.at.left entity e there is number
-
-    by_number : (b : Bool) → (latest last.ends h.system h.reference == x) ≡ b
-        → (if b then option_and_then (λ (z : Entity). end_at z h.reference) (entity_at last.entities h.system) else None) ≡ Some e → HasLeft e.stage
-    by_number true same is = by_entity (entity_at last.entities h.system) refl (eqb-true (latest last.ends h.system h.reference) x same) is
-    by_number false same is = absurd (none-some e is)
 
 -- ---- an end in AkWait
 
@@ -106,12 +92,7 @@ tried_by_now bound now p b agreed stage low half made = absurd half
 -- an end that is Closing sent its DR by now
 closed_by_now : (bound now : ℕ) (p : Parties) (agreed : Option Options) (b : EndRecord) (stage : StateData) → now + b.timers.t1 ≤ bound → HasParted now stage → IsClosedBy bound now p agreed [] b stage
 closed_by_now bound now p agreed b (stages.Closing c) low parted = inl (omega (arith, low, parted), omega (arith, low))
-closed_by_now bound now p agreed b (stages.CrWait c) low parted = tt
-closed_by_now bound now p agreed b (stages.WaitBeforeClose c) low parted = tt
-closed_by_now bound now p agreed b (stages.UserWait c) low parted = tt
-closed_by_now bound now p agreed b (stages.AkWait c) low parted = tt
-closed_by_now bound now p agreed b (stages.Opened c) low parted = tt
-closed_by_now bound now p agreed b (stages.Frozen c) low parted = tt
+closed_by_now bound now p agreed b stage low parted = tt
 
 none_awaited : (bound now : ℕ) (p : Parties) (agreed : Option Options) (v : InAkWait) → (v.tries.last ≤ bound) ⊎ ((v.tries.last ≤ now) × IsAwaited p agreed []) → v.tries.last ≤ bound
 none_awaited bound now p agreed v (inl early) = early
@@ -146,10 +127,10 @@ module _ {C : Type 0} (link : C → Link (List ℕ)) (steps : C → Call (List �
   abbrev ordered : C → Call (List ℕ) → C → Type 0
   ordered = InOrder link steps
 
-  orders : (old : C) (call : Call (List ℕ)) (new : C) → ordered old call new → CarrierKeeps (link old) call (link new)
+  abbrev orders : (old : C) (call : Call (List ℕ)) (new : C) → ordered old call new → CarrierKeeps (link old) call (link new)
   orders = keeps_order link steps law
 
-  fifo : IsFifo link ordered titles Waits
+  abbrev fifo : IsFifo link ordered titles Waits
   fifo = is_fifo link steps titles (ReachedFrom link steps titles first) Waits prompt
 
   rests : Rests link AreProper names timers early old
@@ -158,28 +139,17 @@ module _ {C : Type 0} (link : C → Link (List ℕ)) (steps : C → Call (List �
   abbrev t0 : ℕ
   t0 = (link old.carrier).clock
 
-  stands : StandsSo link ordered orders titles Waits fifo old (hall_of link old) []
-  stands = record {
-    shows = record { clock = refl; entities = refl; ends = refl; waits = prompt.begins old.carrier ready.reached ready.none_left; units = refl };
-    kept = ready.kept;
-    have = ready.have;
-    rest = ready.rest;
-  }
-
-  have_run : HaveRun link steps titles script old last late
-  have_run = runs_ordered link steps titles script old last late (inl ready.none_left) run.settled run.kept run.runs
-
   -- what is kept holds after them
-  pub reaches : (P : List Event → World C → List Post → Type 0) → IsKept link names timers P → P early old [] → HasReached link names timers P (early ++ late) last
-  reaches P keeps holds =
-      lines_reach link ordered orders titles Waits fifo names timers going (followed_by flowing knows) calls.timed P keeps script old last early late (hall_of link old) [] stands rests
-      (calls_fit link steps law names timers early old calls) (inl refl) run.settled run.proper run.unrouted (undropped late run.kept) holds have_run.runs
+  pub reaches : (P : List Event → World C → List Post → Type 0) → IsKept link names timers P → P early old [] → HasReached link names timers [] P (early ++ late) last
+  reaches P is_kept holds =
+      runs_reach link steps law titles first Waits prompt going (followed_by flowing knows) names timers calls.timed rests.w early [] early late old last script rests.explains
+      (calls_fit link steps law names timers early old calls) ready run refl P _ (kept_along link ordered orders titles Waits fifo names timers going (followed_by flowing knows) calls.timed P is_kept) holds
 
   module _ (x y : ℕ) (e : End) (partners : ArePartners early x y) (s : Stands old x e) (half : KnowsPartner e.stage) (left : HasLeftEnd old y) where
     abbrev p : Parties
     p = parties link names timers rests.w early old rests.explains x y e partners s half left
 
-    reached : HasReached link names timers (Holds t0 p) (early ++ late) last
+    reached : HasReached link names timers [] (Holds t0 p) (early ++ late) last
     reached = reaches (Holds t0 p) (kept link names timers going t0 p) (inr (half_here link names timers rests.w early old rests.explains x y e partners s half left))
 
     module _ (h : IsHalf t0 p (early ++ late) last []) where
@@ -232,7 +202,7 @@ module _ {C : Type 0} (link : C → Link (List ℕ)) (steps : C → Call (List �
               (tried_by_now bound t0 p e.base e.base.agreed e.stage low half (steady s.system s.entity s.is_end.there s.reference e s.is_end.stands).made);
         }
 
-        answered : HasReached link names timers (Keeps link t0 bound p) (early ++ late) last
+        answered : HasReached link names timers [] (Keeps link t0 bound p) (early ++ late) last
         answered = reaches (Keeps link t0 bound p) (kept_answerable link names timers going t0 bound p) (inr begins_so)
 
         over_answerable : bound + timers.t1 ≤ (link last.carrier).clock → IsAnswerable link t0 bound p (early ++ late) last [] → IsNotAccepted last x

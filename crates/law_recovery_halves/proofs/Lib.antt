@@ -3,7 +3,6 @@ pub mod Answered
 pub mod Beside
 pub mod Deeds
 pub mod Ending
-pub mod Lasting
 pub mod Parting
 pub mod Partner
 pub mod Past

@@ -105,10 +105,7 @@ left_goes now e event left = by e.stage event left
     by (stages.Frozen when) (Called call) left = Out tt
     by (stages.Frozen when) Ticked left = Out tt
     by (stages.Frozen when) (Took t sum) left = either (GoesOut e.base (stages.Frozen when)) (wants_sum e.base (stages.Frozen when) t && not sum) _ _ (Out tt) (Out tt)
-    by (stages.CrWait w) event left = absurd left
-    by (stages.UserWait since) event left = absurd left
-    by (stages.AkWait w) event left = absurd left
-    by (stages.Opened o) event left = absurd left
+    by stage event left = absurd left
 
 -- ---- a CC comes to it
 

@@ -1,11 +1,10 @@
 -- The partner of an end, by the history of its network: no end is for the end but its partner, and what stands at the place of the partner is the partner.
-use Rattle.std.proofs.Common.{◌≡◌, inl, inr, ℕ, suc, ◌+◌, ◌-◌, ◌<◌, ◌≤◌, Bool, if◌then◌else◌, List, Some, None, slice_get, refl, sym, ◌∙◌, ap, subst, arith}
+use Rattle.std.proofs.Common.{◌≡◌, inl, inr, ℕ, suc, ◌+◌, ◌<◌, ◌≤◌, List, Some, None, refl, sym, ◌∙◌, ap, subst, arith}
 use Rattle.std.specs.List.{AllByRecursion}
-use Rattle.std.proofs.Math.Dec.{eqb-suc-zero}
 use Rattle.std.proofs.lemmas.Bool.{cases_order}
 use Rattle.std.proofs.lemmas.Option.{same_Some}
 use Rattle.osi_base.specs.Link.{Link}
-use Rattle.script_journal.specs.Lawful.{ArePartners}
+use Rattle.script_journal.specs.Partner.{ArePartners}
 use Rattle.script_journal.specs.declared.event.Event.{Event as JournalEvent}
 use Rattle.tp4_conn.specs.End.{End}
 use Rattle.tp4_conn.specs.declared.states.StateData.{StateData}
@@ -17,7 +16,7 @@ use Rattle.law_tp4_history.specs.History.{IsPartner}
 use Rattle.law_tp4_history.specs.Tracks.{Whole}
 use Rattle.law_tp4_history.proofs.Meets.{swap}
 use Rattle.law_tp4_history.proofs.Sound.{OwnFacts, Sound, one_partner, partner_low}
-use Rattle.law_tp4_moves.specs.Moves.{stop_of, times_of}
+use Rattle.law_tp4_moves.specs.Moves.{stop_of, times_of, HasSource}
 use Rattle.law_tp4_pair.specs.steps.Standing.{HasLeft}
 use Rattle.tp4_world.specs.World.{World, end_numbered, entity_at, latest}
 use Rattle.tp4_world.specs.declared.place.EndAt.{EndAt}
@@ -31,9 +30,9 @@ use Rattle.law_recovery_run.specs.Aside.{IsSentTo, Names}
 use Rattle.law_recovery_run.specs.Rivals.{IsFor, IsGoing}
 use Rattle.law_recovery_run.proofs.Rivals.{far as known_far, here as known_here, partner_there, sound as sound_of}
 use Rattle.law_recovery_service.specs.Over.{HasLeftAt}
-use Rattle.law_tp4_moves.specs.Moves.{HasSource}
 use Rattle.law_tp4_moves.specs.Seen.{seen}
 use Rattle.law_recovery_halves.proofs.Rows.{IsCc, IsDr}
+use Rattle.law_recovery_script.proofs.Outlasting.{at_suc}
 
 -- an end, its place and its address; and its partner, with its own
 pub record Parties : Type 0 where
@@ -83,9 +82,6 @@ still_goes t0 (stages.Opened o) still = refl
 still_goes t0 (stages.UserWait since) still = refl
 still_goes t0 (stages.AkWait w) still = refl
 still_goes t0 stage still = absurd still
-
-at_suc : (ends : List EndAt) (k : ℕ) → end_numbered ends (suc k) ≡ slice_get ends k
-at_suc ends k = ap (λ (b : Bool). if b then None else slice_get ends (suc k - 1)) (eqb-suc-zero k) ∙ ap (slice_get ends) (omega arith)
 
 module _ {C : Type 0} (link : C → Link (List ℕ)) (names : List (List ℕ)) (timers : Timers) (w : Whole) (journal : List JournalEvent) (world : World C) (explains : Explains link names timers w journal world)
     (t0 : ℕ) (p : Parties) (posts : List Post) (h : IsHalf t0 p journal world posts) where

@@ -9,10 +9,10 @@ use Rattle.tpdu.specs.declared.tpdu.Tpdu.TheVariants as wires
 use Rattle.tp4_number.specs.Number.{whole}
 use Rattle.tp4_number.specs.declared.got.Got.{Got}
 use Rattle.tp4_number.specs.declared.got.Got.TheVariants.{Kept, Old, Outside, TooLarge}
-use Rattle.tp4_flow.specs.Half.{Half, Received, dt_arrival, half_granted, taken_dt}
+use Rattle.tp4_flow.specs.ReceivingHalf.{Half, Received, dt_arrival, half_granted, taken_dt}
 use Rattle.tp4_flow.specs.declared.rules.Life.{Life}
 use Rattle.tp4_flow.specs.declared.rules.Life.TheVariants.{Exhausted, Goes}
-use Rattle.tp4_sending.specs.FlowSender.{Sendings, at as sender_at, life_of, ticked}
+use Rattle.tp4_sending.specs.SendingHalf.{Sendings, at as sender_at, life_of, ticked}
 use Rattle.tp4_conn.specs.Agreeing.{is_within}
 use Rattle.tp4_conn.specs.AkWait.{ak_wait_tick, ak_wait_tpdu}
 use Rattle.tp4_conn.specs.Closing.{closing_tick, closing_tpdu}
@@ -38,7 +38,7 @@ use Rattle.tp4_entity.specs.Entity.{Entity, end_at}
 use Rattle.tp4_world.specs.World.{World, entity_at}
 use Rattle.tp4_world.proofs.Addressees.{either}
 use Rattle.law_tp4_lawful.specs.Called.{AreHonestCalls}
-use Rattle.law_recovery_halves.proofs.Lasting.{each_has}
+use Rattle.law_recovery_request.proofs.Lasting.{each_has}
 
 -- an end in Closing sent its DR by then
 abbrev pub HasParted : ℕ → StateData → Type 0
@@ -157,35 +157,20 @@ grant_parted b o new = either (Parted b) (new.receiver.inbox.credit == o.halves.
 answer_parted : (b : EndRecord) (since : ℕ) (call : UserCall) → Parted b (on_call b (stages.UserWait since) call)
 unfolding user_wait_accept user_wait_refuse
 answer_parted b since (asks.Accept options octets) = tt
-answer_parted b since (asks.Refuse octets) = tt
-answer_parted b since (asks.Normal unit) = tt
-answer_parted b since (asks.Urgent unit) = tt
-answer_parted b since (asks.Window credit) = tt
-answer_parted b since (asks.Disconnect octets) = tt
+answer_parted b since other = tt
 
 asked_parted : (b : EndRecord) (w : InAkWait) (call : UserCall) → Parted b (on_call b (stages.AkWait w) call)
-asked_parted b w (asks.Accept options octets) = tt
-asked_parted b w (asks.Refuse octets) = tt
-asked_parted b w (asks.Normal unit) = tt
-asked_parted b w (asks.Urgent unit) = tt
-asked_parted b w (asks.Window credit) = tt
 asked_parted b w (asks.Disconnect octets) = omega arith
+asked_parted b w other = tt
 
 used_parted : (b : EndRecord) (o : InOpened) (call : UserCall) → Parted b (on_call b (stages.Opened o) call)
-used_parted b o (asks.Accept options octets) = tt
-used_parted b o (asks.Refuse octets) = tt
-used_parted b o (asks.Normal unit) = tt
-used_parted b o (asks.Urgent unit) = tt
 used_parted b o (asks.Window credit) = grant_parted b o (half_granted o.halves.receiving credit)
 used_parted b o (asks.Disconnect octets) = omega arith
+used_parted b o other = tt
 
 calling_parted : (b : EndRecord) (w : InCrWait) (call : UserCall) → Parted b (on_call b (stages.CrWait w) call)
 calling_parted b w (asks.Accept options octets) = tt
-calling_parted b w (asks.Refuse octets) = tt
-calling_parted b w (asks.Normal unit) = tt
-calling_parted b w (asks.Urgent unit) = tt
-calling_parted b w (asks.Window credit) = tt
-calling_parted b w (asks.Disconnect octets) = tt
+calling_parted b w other = tt
 
 call_parted : (b : EndRecord) (stage : StateData) (call : UserCall) → HasParted b.clock stage → Parted b (on_call b stage call)
 call_parted b (stages.CrWait w) call was = calling_parted b w call

@@ -43,33 +43,11 @@ use Rattle.law_recovery_request.proofs.Meeting.{IsAnswerTo}
 use Rattle.law_recovery_script.proofs.Asking.{at_place}
 use Rattle.law_recovery_halves.proofs.Partner.{IsHalf, IsQuiet, Parties, partner_stands, rival}
 use Rattle.law_recovery_halves.proofs.Rows.{IsCc, IsDr, IsPartingFor, left_takes}
+use Rattle.law_recovery_request.proofs.Keeping.{read_names, read_sourced}
 
 -- ---- what is read
 
-no_number : (t : WireTpdu) (reference : ℕ) → Names reference t → has_number (kind_for t) ≡ false
-no_number (wires.Cr credit source width calling called size preferred extra version classes ack_time text) reference names = refl
-no_number (wires.Cc credit destination source width calling called size preferred extra version classes ack_time text) reference names = refl
-no_number (wires.Dr destination source reason info text) reference names = refl
-no_number other reference names = absurd names
-
-no_cc : (t : WireTpdu) → has_number (kind_for t) ≡ true → HasSource (seen 0 t)
-no_cc (wires.Dt destination last number text) has = λ kind. absurd (cc kind)
-no_cc (wires.Ed destination last number text) has = λ kind. absurd (cc kind)
-no_cc (wires.Ak destination number credit subsequence confirmation) has = λ kind. absurd (cc kind)
-no_cc (wires.Ea destination number) has = λ kind. absurd (cc kind)
-no_cc other has = absurd (cc has)
-
-pub read_names : (entity : Entity) (sent : Sent) (t : WireTpdu) (sum : Bool) (reference : ℕ) → IsReadAs entity sent (t, sum) → Names reference t → Names reference sent.tpdu
-read_names entity sent t sum reference read names = subst (Names reference) (read.control (ap has_number (sym read.kind) ∙ no_number t reference names)) names
-
-pub read_sourced : (entity : Entity) (sent : Sent) (t : WireTpdu) (sum : Bool) → IsReadAs entity sent (t, sum) → HasSource (seen 0 sent.tpdu) → HasSource (seen 0 t)
-read_sourced entity sent t sum read has = by (has_number (kind_for sent.tpdu)) refl
-  where
-    by : (c : Bool) → has_number (kind_for sent.tpdu) ≡ c → HasSource (seen 0 t)
-    by true is = no_cc t (ap has_number read.kind ∙ is)
-    by false is = subst (λ (u : WireTpdu). HasSource (seen 0 u)) (sym (read.control is)) has
-
-cc_plain : (t : WireTpdu) → IsCc t → has_number (kind_for t) ≡ false
+pub cc_plain : (t : WireTpdu) → IsCc t → has_number (kind_for t) ≡ false
 cc_plain (wires.Cc credit destination source width calling called size preferred extra version classes ack_time text) is = refl
 cc_plain other is = absurd is
 

@@ -8,12 +8,12 @@ use Rattle.tpdu.specs.declared.tpdu.Tpdu.{Tpdu}
 use Rattle.tpdu.specs.declared.tpdu.Tpdu.TheVariants.{Cc, Cr, Dc, Dr}
 use Rattle.tp4_number.specs.Number.{whole}
 use Rattle.tp4_number.proofs.Past.{if_kept}
-use Rattle.tp4_flow.specs.Half.{Half, half_granted}
+use Rattle.tp4_flow.specs.ReceivingHalf.{Half, half_granted}
 use Rattle.tp4_flow.specs.declared.rules.FlowRules.{FlowRules}
 use Rattle.tp4_flow.specs.declared.rules.Life.{Life}
 use Rattle.tp4_flow.specs.declared.rules.Life.TheVariants.{Goes, Exhausted as Spent}
 use Rattle.tp4_flow.specs.declared.step.Sent.{Sent}
-use Rattle.tp4_sending.specs.FlowSender.{FlowSender, Sendings, at, life_of, new_sends, ticked}
+use Rattle.tp4_sending.specs.SendingHalf.{FlowSender, Sendings, at, life_of, new_sends, ticked}
 use Rattle.tp4_sending.specs.Pieces.{again}
 use Rattle.tp4_conn.specs.Agreeing.{confirm, confirms_again}
 use Rattle.tp4_conn.specs.AkWait.{ak_wait_tick, ak_wait_tpdu}
@@ -192,9 +192,7 @@ module _ (b : EndRecord) (w : InAkWait) where
     does = inl (refl, shut_sends (let s = at b.clock w.halves.sending in record s { urgent = record s.urgent { units = s.urgent.units ++ unit ∷ [] } }) shut);
   })
   asked_row shut (calls.Disconnect octets) = inl tt
-  asked_row shut (calls.Window credit) = inr (record { base = refl; next = w; stage = refl; first = refl; does = inl (refl, refl) })
-  asked_row shut (calls.Accept options octets) = inr (record { base = refl; next = w; stage = refl; first = refl; does = inl (refl, refl) })
-  asked_row shut (calls.Refuse octets) = inr (record { base = refl; next = w; stage = refl; first = refl; does = inl (refl, refl) })
+  asked_row shut other = inr (record { base = refl; next = w; stage = refl; first = refl; does = inl (refl, refl) })
 
   waited_row : Waits_on (ak_wait_tick b w)
   unfolding ak_wait_tick
@@ -235,10 +233,7 @@ module _ (b : EndRecord) (since : ℕ) where
   unfolding user_wait_accept user_wait_refuse
   answer_row (calls.Accept options octets) = inr (inr (record { options = _; base = refl; next = _; stage = refl; last = refl; octets = octets; tpdus = refl }))
   answer_row (calls.Refuse octets) = inl tt
-  answer_row (calls.Normal unit) = inr (inl (record { base = refl; stage = refl; none = refl }))
-  answer_row (calls.Urgent unit) = inr (inl (record { base = refl; stage = refl; none = refl }))
-  answer_row (calls.Window credit) = inr (inl (record { base = refl; stage = refl; none = refl }))
-  answer_row (calls.Disconnect octets) = inr (inl (record { base = refl; stage = refl; none = refl }))
+  answer_row other = inr (inl (record { base = refl; stage = refl; none = refl }))
 
   late_row : Answers_or (user_wait_tick b since)
   unfolding user_wait_tick
@@ -279,11 +274,8 @@ left_alone now e event alone left = by e.stage event alone left
     by (stages.WaitBeforeClose w) Ticked alone left = waiting_ticks (now_at now e.base) w
     by (stages.Frozen when) (Called call) alone left = tt
     by (stages.Frozen when) Ticked alone left = tt
-    by (stages.CrWait w) event alone left = absurd left
-    by (stages.UserWait since) event alone left = absurd left
-    by (stages.AkWait w) event alone left = absurd left
-    by (stages.Opened o) event alone left = absurd left
     by stage (Took tpdu sum) alone left = absurd alone
+    by stage event alone left = absurd left
 
 -- it goes back to the end of whose DR it is the DC
 pub record IsBack (b : EndRecord) (t : Tpdu) (sent : Sent) : Type 0 where
@@ -300,7 +292,6 @@ IsPartingFor b t sent = IsDr sent.tpdu ⊎ IsBack b t sent
 closing_takes : (b : EndRecord) (c : InClosing) (t : Tpdu) → AllByRecursion (IsPartingFor b t) (closing_tpdu b c t).tpdus
 unfolding closing_tpdu
 closing_takes b c (Dc destination source) = tt
-closing_takes b c (Dr destination source reason info text) = tt
 closing_takes b c other = tt
 
 waiting_takes : (b : EndRecord) (w : InWaitBeforeClose) (t : Tpdu) → AllByRecursion (IsPartingFor b t) (wait_before_close_tpdu b w t).tpdus

@@ -1,8 +1,7 @@
 -- An end that stands half-open beside a partner that has left, where nothing waits, by the history of its network.
-use Rattle.std.proofs.Common.{◌≡◌, ◌≢◌, inl, inr, ℕ, suc, ◌+◌, ◌-◌, ◌≤◌, Bool, if◌then◌else◌, List, [], None, slice_get, refl, sym, ◌∙◌, ap, subst, arith}
-use Rattle.std.proofs.Math.Dec.{eqb-suc-zero}
+use Rattle.std.proofs.Common.{◌≡◌, ◌≢◌, inl, inr, ℕ, suc, ◌+◌, ◌≤◌, List, [], None, refl, sym, ◌∙◌, ap, subst, arith}
 use Rattle.osi_base.specs.Link.{Link}
-use Rattle.script_journal.specs.Lawful.{ArePartners}
+use Rattle.script_journal.specs.Partner.{ArePartners}
 use Rattle.script_journal.specs.declared.event.Event.{Event as JournalEvent}
 use Rattle.tp4_conn.specs.End.{End}
 use Rattle.tp4_conn.specs.declared.end_record.EndRecord.{EndRecord}
@@ -26,6 +25,7 @@ use Rattle.law_recovery_walk.specs.Following.{Stands}
 use Rattle.law_recovery_service.specs.Over.{HasLeftEnd}
 use Rattle.law_recovery_service.specs.Halves.{KnowsPartner}
 use Rattle.law_recovery_halves.proofs.Partner.{IsHalf, IsStill, Parties}
+use Rattle.law_recovery_script.proofs.Outlasting.{at_suc}
 
 half_goes : (stage : StateData) → KnowsPartner stage → stop_of stage ≡ None
 half_goes (stages.Opened o) half = refl
@@ -39,9 +39,6 @@ half_seen birth took latest now b (stages.Opened o) half seen low = (seen.known,
 half_seen birth took latest now b (stages.UserWait since) half seen low = (seen.known, tt)
 half_seen birth took latest now b (stages.AkWait w) half seen low = (seen.known, tt)
 half_seen birth took latest now b stage half seen low = absurd half
-
-at_suc : (ends : List EndAt) (k : ℕ) → end_numbered ends (suc k) ≡ slice_get ends k
-at_suc ends k = ap (λ (b : Bool). if b then None else slice_get ends (suc k - 1)) (eqb-suc-zero k) ∙ ap (slice_get ends) (omega arith)
 
 module _ {C : Type 0} (link : C → Link (List ℕ)) (names : List (List ℕ)) (timers : Timers) (w : Whole) (journal : List JournalEvent) (world : World C) (explains : Explains link names timers w journal world)
     (x y : ℕ) (e : End) (partners : ArePartners journal x y) (s : Stands world x e) (half : KnowsPartner e.stage) (left : HasLeftEnd world y) where

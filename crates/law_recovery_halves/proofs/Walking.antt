@@ -1,692 +1,89 @@
 -- What is kept by all that happens at once in a network is kept by lines that are settled and lose nothing.
-use Rattle.std.proofs.Common.{◌≡◌, ◌⊎◌, inl, inr, ℕ, ◌+◌, ◌≤◌, Bool, true, false, List, [], ◌∷◌, ◌++◌, length, Option, Some, None, refl, sym, ◌∙◌, ap, subst, append-nil, append_assoc}
-use Rattle.std.specs.Prelude.{slice_get}
-use Rattle.std.specs.List.{AllByRecursion}
-use Rattle.nsap.proofs.AddressLemmas.{selector_of-append}
-use Rattle.nsap.specs.Address.{selector_of, system_part}
-use Rattle.osi_base.specs.Calls.{Call, Keeps, Offer, Tick}
-use Rattle.osi_base.specs.Link.{IsLeastFresh, Link}
-use Rattle.osi_base.specs.declared.unit.Offered.{Offered}
-use Rattle.osi_base.specs.declared.unit.Offered.TheVariants.{Taken as WasTaken, Dropped}
-use Rattle.osi_base.specs.declared.unit.Picked.TheVariants.{Taken as WasPicked}
+use Rattle.std.proofs.Common.{◌≡◌, ℕ, List, [], Some, refl, Option, None, sym}
+use Rattle.osi_base.specs.Calls.{Call, Keeps}
+use Rattle.osi_base.specs.Link.{Link}
 use Rattle.osi_base.specs.declared.unit.Unit.{Unit as CarriedUnit}
-use Rattle.osi_base.specs.declared.unit.Wish.{Wish}
-use Rattle.script_journal.specs.RawLawful.{raw_address}
-use Rattle.script_journal.specs.declared.cause.Refused.{Refused}
-use Rattle.script_journal.specs.declared.cause.Refused.TheVariants as refusals
 use Rattle.script_journal.specs.declared.event.Event.{Event}
-use Rattle.script_journal.specs.declared.event.Event.TheVariants as events
-use Rattle.script_lines.specs.declared.line.Line.{Line}
-use Rattle.script_lines.specs.declared.line.Line.TheVariants as lines
-use Rattle.net_world.specs.Fifo.{IsBetween, IsFifo, queued}
-use Rattle.net_world.specs.Run.{SendsUnit, raw_unit}
-use Rattle.net_world.specs.Told.{sent_event, told}
-use Rattle.tpdu.specs.declared.service.Options.{Options}
+use Rattle.net_world.specs.Fifo.{IsFifo}
 use Rattle.tp4_number.specs.Number.{whole}
-use Rattle.tp4_sending.specs.FlowSender.{due_of}
-use Rattle.tp4_sending.specs.Pieces.{sooner}
-use Rattle.tp4_conn.specs.Calls.{IsCall}
-use Rattle.tp4_conn.specs.End.{End, IsSized, IsTimed, Moved, end_of}
-use Rattle.tp4_conn.specs.Proper.{IsProperCall}
-use Rattle.tp4_conn.specs.Table.{Called, Ticked, due, stepped}
-use Rattle.tp4_conn.specs.declared.call.ConnectRequest.{ConnectRequest}
-use Rattle.tp4_conn.specs.declared.call.UserCall.{UserCall}
-use Rattle.tp4_conn.specs.declared.call.UserCall.TheVariants as asks
-use Rattle.tp4_conn.specs.declared.end_record.EndRecord.{EndRecord}
-use Rattle.tp4_conn.specs.declared.states.StateData.{StateData}
-use Rattle.tp4_conn.specs.declared.states.StateData.TheVariants as stages
+use Rattle.tp4_conn.specs.End.{End, IsTimed, Moved, end_of}
+use Rattle.tp4_conn.specs.Table.{Called, Ticked, due, stepped, Event as EndEvent}
 use Rattle.tp4_conn.specs.declared.timers.Timers.{Timers}
-use Rattle.tp4_entity.specs.declared.refusal.ConnectRefusal.{ConnectRefusal}
-use Rattle.tp4_entity.specs.declared.refusal.EntityRefusal.{EntityRefusal}
-use Rattle.tp4_entity.specs.Entity.{Acted, Entity, at, end_at, moved}
-use Rattle.tp4_entity.specs.References.{least_free}
-use Rattle.tp4_entity.specs.Step.{call_of, calling, calling_end, connect_refusal, connecting, first_due, is_due, kept_end, ticked_to, ticking, ticking_at, ticking_end, user_refusal}
-use Rattle.tp4_entity.proofs.Beginning.{short}
-use Rattle.law_tp4_history.specs.History.{Tick as HistoryTick}
-use Rattle.law_tp4_history.specs.Journals.{IsAside}
-use Rattle.law_tp4_history.specs.Tracks.{Nothing, Whole, onward}
-use Rattle.law_tp4_moves.specs.Moves.{stop_of, times_of}
-use Rattle.law_tp4_proper.specs.Rest.{AreInTime, AreProper, IsAtRest, IsProperStep, IsProperTick}
-use Rattle.law_tp4_proper.proofs.Ends.{calling_rests, connecting_rests, ticking_proper, waits}
-use Rattle.law_tp4_pair.specs.Calm.{IsSettledScript, Settles as IsSettledNext}
-use Rattle.law_tp4_pair.specs.Claim.{IsUndropped}
-use Rattle.tp4_world.specs.Called as requests
-use Rattle.tp4_world.specs.Run.{Acts, BeginsAt, CallsAt, CallsBy, CallsEnd, Connects, ConnectsBy, Delivers, IsRefused, NoneDue, NoneLeft, OneDue, OneMore, RunsLine, RunsLines, Settles, Ticks, TicksAll, TicksEntity, TooMany, clock_of, has_ended}
-use Rattle.tp4_world.specs.Telling.{call_events, connect_event, ends_after, told_connect, told_refusal}
-use Rattle.tp4_world.specs.World.{World, end_numbered, entity_at, with_entity}
-use Rattle.tp4_world.specs.declared.place.EndAt.{EndAt}
-use Rattle.tp4_world.specs.declared.place.Placed.{Placed}
-use Rattle.tp4_world.proofs.Destinations.{ActsFine, calling_fine, connecting_fine, ticking_fine}
-use Rattle.tp4_world.proofs.Having.{with_any}
-use Rattle.tp4_world.proofs.Lined.{line_alike}
-use Rattle.law_tp4_lawful.specs.Limits.{IsProperLine}
-use Rattle.law_tp4_lawful.proofs.Known.{IsOffered, Known}
-use Rattle.law_tp4_lawful.proofs.Worlds.{Explains, Followed, Rests}
-use Rattle.law_tp4_lawful.proofs.WorldActs.{Went, went_nowhere, went_on}
-use Rattle.law_tp4_lawful.proofs.WorldAsides.{are_aside, told_quiet}
-use Rattle.law_tp4_lawful.proofs.WorldFloats.{tick_goes}
-use Rattle.law_tp4_lawful.proofs.WorldKnown.{plain_kept}
-use Rattle.law_tp4_ended.proofs.Lines.{line_went}
-use Rattle.law_tp4_ended.proofs.Worlds as ended
-use Rattle.law_tp4_ended.proofs.Worlds.{IsFitWorld}
-use Rattle.law_calm_run.specs.Run.{HaveEntities, IsUnrouted}
-use Rattle.law_calm_run.proofs.Asking.{IsAsked}
-use Rattle.law_calm_run.proofs.Going as calm
-use Rattle.law_calm_run.proofs.Going.{Acting, acts_go, have_after, kept_after, waiting_after}
-use Rattle.law_calm_run.proofs.Hall.{AreWaiting, Hall, IsAddress, Post, after, posted, with_new}
-use Rattle.law_calm_run.proofs.Posting.{AreKept, AreUnitsOf, IsHall, IsKept as IsEntityKept}
-use Rattle.law_calm_run.proofs.Queueing.{all_parts, none_dropped, raw_behind}
-use Rattle.law_calm_run.proofs.Ticking as calm_ticking
+use Rattle.tp4_entity.specs.Step.{kept_end}
+use Rattle.tp4_world.specs.World.{World}
+use Rattle.law_tp4_lawful.proofs.Worlds.{Followed}
+use Rattle.law_calm_run.proofs.Hall.{Post}
 use Rattle.law_recovery_run.proofs.Aiming.{Going}
-use Rattle.law_recovery_walk.proofs.Coming.{StandsSo, delivered}
-use Rattle.law_recovery_script.proofs.Asking.{IsTaker, taker}
-use Rattle.law_recovery_script.proofs.Lasting.{did_rests, line_honest, line_rests}
+use Rattle.law_recovery_script.proofs.Deeds as walked
+use Rattle.law_recovery_script.proofs.Deeds.{Asks, EndTicks, KeepsHeard, KeepsStill, EndDoes}
+use Rattle.law_recovery_script.proofs.Lasting.{settle_keeps}
 use Rattle.law_recovery_script.proofs.Outlasting.{kept_is}
-use Rattle.law_recovery_script.proofs.Ticking.{AreAllInTime, due_is}
-use Rattle.law_recovery_halves.proofs.Deeds.{AreSame, Heard, IsKept, New, Over, Row}
+use Rattle.law_recovery_script.proofs.Ticking.{going_kept}
+use Rattle.law_recovery_halves.proofs.Deeds.{DoesRow, Heard, IsKept, New, Over, Row}
+use Rattle.std.proofs.lemmas.Option.{same_Some}
+use Rattle.tp4_conn.specs.Living.{IsFit}
+use Rattle.tp4_conn.specs.Proper.{IsProperEvent}
+use Rattle.law_tp4_moves.specs.Moves.{IsSourced, stop_of}
+use Rattle.law_recovery_walk.proofs.Naming.{NamedBy}
+use Rattle.law_recovery_halves.proofs.Rows.{IsAlone}
 
-behind_lines : (own made later : List Event) → made ≡ own ++ later → AllByRecursion IsUndropped made → AllByRecursion IsUndropped later
-behind_lines own made later is all = (all_parts IsUndropped own later (subst (λ (es : List Event). AllByRecursion IsUndropped es) is all)).1
+-- what an end does by its user, or by its timers
+row_of : {C : Type 0} (link : C → Link (List ℕ)) (old new : World C) (made : List Event) (posts later : List Post) (number : ℕ) (event : EndEvent) (place : Moved → Option End)
+    (d : EndDoes link old new made posts later number event place) → IsAlone event → IsFit d.end event → IsSourced 0 event → IsProperEvent d.end event → ((r : ℕ) → NamedBy event r → ⊥)
+    → ((e : End) → place (stepped whole (link old.carrier).clock d.end event) ≡ Some e → e ≡ end_of (stepped whole (link old.carrier).clock d.end event))
+    → (stop_of (stepped whole (link old.carrier).clock d.end event).stage ≡ None → place (stepped whole (link old.carrier).clock d.end event) ≡ Some (end_of (stepped whole (link old.carrier).clock d.end event)))
+    → DoesRow link old new made posts later
+row_of {C} link old new made posts later number event place d alone fit sourced may unnamed place_is stays = record {
+  system = d.system;
+  entity = d.entity;
+  there = d.there;
+  reference = d.reference;
+  end = d.end;
+  stands = d.stands;
+  event = event;
+  alone = alone;
+  fit = fit;
+  sourced = sourced;
+  may = may;
+  unnamed = unnamed;
+  place = place (stepped whole (link old.carrier).clock d.end event);
+  place_is = place_is;
+  stays = stays;
+  entities = d.entities;
+  ends = d.ends;
+  clock = d.clock;
+  later_is = d.later_is;
+}
 
-due_end : (now : ℕ) (place : Option End) → is_due now place ≡ true → (e : End) × (place ≡ Some e)
-due_end now None is = absurd (cc is)
-due_end now (Some e) is = (e, refl)
+asks_row : {C : Type 0} (link : C → Link (List ℕ)) (old new : World C) (made : List Event) (posts later : List Post) → Asks link old new made posts later → DoesRow link old new made posts later
+asks_row {C} link old new made posts later d = row_of link old new made posts later d.number (Called d.call) (λ (m : Moved). Some (end_of m)) d.does tt tt tt (d.allowed, d.proper) (λ n named. named)
+    (λ e same. sym (same_Some (end_of (stepped whole (link old.carrier).clock d.does.end (Called d.call))) e same)) (λ none. refl)
 
-in_time_with : (now : ℕ) (placed : List Placed) (system : ℕ) (new : Entity) → AreAllInTime now placed → AreInTime now new → AreAllInTime now (with_entity placed system new)
-in_time_with now placed system new all one other e is = elim (with_any placed system other new e is) [
-  | inl here ↦ subst (AreInTime now) (sym here.1) one
-  | inr before ↦ all other e before
-]
-
-sooner_kept : (m : Moved) (tick : ℕ) (other : Option ℕ) → kept_end m (sooner (Some tick) other) ≡ Some (end_of m)
-sooner_kept m tick None = refl
-sooner_kept m tick (Some later) = refl
-
--- an end that is not frozen is not taken out
-going_kept : (m : Moved) (b : EndRecord) (stage : StateData) → stop_of stage ≡ None → kept_end m (due b stage) ≡ Some (end_of m)
-going_kept m b (stages.CrWait w) goes = refl
-going_kept m b (stages.WaitBeforeClose w) goes = refl
-going_kept m b (stages.UserWait since) goes = refl
-going_kept m b (stages.AkWait w) goes = refl
-going_kept m b (stages.Opened o) goes = sooner_kept m _ (due_of o.halves.sending)
-going_kept m b (stages.Closing c) goes = refl
-going_kept m b (stages.Frozen when) goes = absurd (cc goes)
-
--- lines lead to a network that a history explains, in which nothing waits and no end is due; and it is kept
-pub record HasReached {C : Type 0} (link : C → Link (List ℕ)) (names : List (List ℕ)) (timers : Timers) (P : List Event → World C → List Post → Type 0) (journal : List Event) (last : World C) : Type 0 where
-  pub w : Whole
-  pub explains : Explains link names timers w journal last
-  pub holds : P journal last []
-  pub waiting : AreWaiting (link last.carrier).clock last.entities
+ticks_row : {C : Type 0} (link : C → Link (List ℕ)) (old new : World C) (made : List Event) (posts later : List Post) → EndTicks link old new made posts later → DoesRow link old new made posts later
+ticks_row {C} link old new made posts later d =
+    let m : Moved = stepped whole (link old.carrier).clock d.does.end Ticked in
+    row_of link old new made posts later 0 Ticked (λ (m : Moved). kept_end m (due m.base m.stage)) d.does tt tt tt tt (λ n named. named) (kept_is m (due m.base m.stage)) (λ none. going_kept m m.base m.stage none)
 
 module _ {C : Type 0} (link : C → Link (List ℕ)) (steps : C → Call (List ℕ) → C → Type 0)
     (law : (old : C) (call : Call (List ℕ)) (new : C) → steps old call new → Keeps (link old) call (link new))
     (titles : List (List ℕ)) (Waits : C → List (CarriedUnit (List ℕ)) → Type 0) (fifo : IsFifo link steps titles Waits) (names : List (List ℕ)) (timers : Timers) (going : Going)
     (follow : (titles : List (List ℕ)) (timers : Timers) → Followed titles timers) (timed : IsTimed timers)
     (P : List Event → World C → List Post → Type 0) (kept : IsKept link names timers P) where
-  abbrev So : World C → Hall → List (CarriedUnit (List ℕ)) → Type 0
-  So world hall queue = StandsSo link steps law titles Waits fifo world hall queue
+  still : KeepsStill link P
+  still journal made old new posts same clock tells holds = kept.still journal made old new posts same clock holds
 
-  abbrev Resting : List Event → World C → Type 0
-  Resting journal world = Rests link AreProper names timers journal world
+  heard : KeepsHeard link names timers [] P
+  heard w journal made old new posts later explains d holds = kept.deed w journal made old new posts later explains (Heard d) holds
 
-  -- the network stands so, and it is kept
-  record Reaches (journal : List Event) (new : World C) : Type 0 where
-    hall : Hall
-    queue : List (CarriedUnit (List ℕ))
-    stands : So new hall queue
-    holds : P journal new hall.posts
-
-  none_waits : (hall : Hall) (queue : List (CarriedUnit (List ℕ))) → queue ≡ [] → AreUnitsOf titles queue hall.posts → hall.posts ≡ []
-  none_waits hall queue none units = subst (λ (q : List (CarriedUnit (List ℕ))). AreUnitsOf titles q hall.posts) none units
-
-  same_of : (old new : World C) → new ≡ old → AreSame old new
-  same_of old new same = record { entities = ap (λ (v : World C). v.entities) same; ends = ap (λ (v : World C). v.ends) same }
-
-  -- ---- where no entity acts
-
-  still_reaches : (journal made : List Event) (old new : World C) (hall : Hall) (queue left : List (CarriedUnit (List ℕ))) → So old hall queue → IsHall link titles Waits new hall left → AreSame old new
-      → (link new.carrier).clock ≡ (link old.carrier).clock → P journal old hall.posts → Reaches (journal ++ made) new
-  still_reaches journal made old new hall queue left s shows same clock holds = record {
-    hall = hall;
-    queue = left;
-    stands = record { shows = shows; kept = s.kept; have = s.have; rest = s.rest };
-    holds = kept.still journal made old new hall.posts same clock holds;
+  pub kept_along : walked.IsKept link steps law titles Waits fifo names timers [] P (λ (before : List Event) (start : World C). P)
+  kept_along = record {
+    still = still;
+    asks = λ w journal made old new later explains d holds. kept.deed w journal made old new [] later explains (Row (asks_row link old new made [] later d)) holds;
+    begins = λ w journal made old new later explains d holds. kept.deed w journal made old new [] later explains (New d) holds;
+    settles = λ journal made old new hall queue s r fit all step holds.
+        settle_keeps link steps law titles Waits fifo names timers going follow timed [] P still heard 0 old made new step journal hall queue s r fit all holds;
+    clocks = λ w journal front more old mid explains same clock waiting front_is aside holds. kept.clocks journal front old mid same clock waiting holds;
+    over = λ before start w journal made old new posts later explains d holds. kept.deed w journal made old new posts later explains (Over d) holds;
+    ticks = λ before start w journal made old new posts later explains d holds. kept.deed w journal made old new posts later explains (Row (ticks_row link old new made posts later d)) holds;
+    ticked = λ journal made old new posts step holds. holds;
   }
-
-  same_reaches : (journal made : List Event) (old new : World C) (hall : Hall) (queue : List (CarriedUnit (List ℕ))) → So old hall queue → new ≡ old → P journal old hall.posts → Reaches (journal ++ made) new
-  same_reaches journal made old new hall queue s same holds =
-      still_reaches journal made old new hall queue queue s (subst (λ (v : World C). IsHall link titles Waits v hall queue) (sym same) s.shows) (same_of old new same) (ap (λ (v : World C). (link v.carrier).clock) same) holds
-
-  refused_reaches : (journal made : List Event) (old new : World C) (hall : Hall) (queue : List (CarriedUnit (List ℕ))) (why : Option Refused) → So old hall queue → IsRefused link steps old why made new
-      → P journal old hall.posts → Reaches (journal ++ made) new
-  refused_reaches journal made old new hall queue None s step holds = absurd step
-  refused_reaches journal made old new hall queue (Some why) s step holds = same_reaches journal made old new hall queue s step.1 holds
-
-  -- ---- what users ask, where nothing waits
-
-  module _ (old new : World C) (journal made : List Event) (hall : Hall) (queue : List (CarriedUnit (List ℕ))) (s : So old hall queue) (r : Resting journal old) (all : AllByRecursion IsUndropped made)
-      (holds : P journal old hall.posts) where
-    abbrev now : ℕ
-    now = (link old.carrier).clock
-
-    there_in : (system : ℕ) (entity : Entity) → entity_at old.entities system ≡ Some entity → entity_at hall.entities system ≡ Some entity
-    there_in system entity there = sym (ap (λ (ps : List Placed). entity_at ps system) s.shows.entities) ∙ there
-
-    at_rest : (system : ℕ) (entity : Entity) (there : entity_at old.entities system ≡ Some entity) → IsAtRest now entity
-    at_rest system entity there = record {
-      proper = (s.kept system entity (there_in system entity there)).proper;
-      idle = subst (λ (n : ℕ). first_due n entity ≡ None) (sym s.shows.clock) (s.rest system entity (there_in system entity there));
-    }
-
-    taken_reaches : (number : ℕ) (end : EndAt) (entity : Entity) (call : UserCall) → entity_at old.entities end.system ≡ Some entity → user_refusal entity end.reference call ≡ None → IsCall call
-        → (later : List Event) → Acts link steps old end.system entity.own (calling whole now entity end.reference call) later new → made ≡ call_events number call ++ later → Reaches (journal ++ made) new
-    taken_reaches number end entity call there allowed proper later acts made_is = record {
-      hall = after hall end.system A;
-      queue = a.queue;
-      stands = record {
-        shows = a.shows;
-        kept = kept_after titles hall.entities end.system entity A s.kept (there_in end.system entity there) goes.rest.proper fine;
-        have = have_after titles hall.entities end.system A.entity s.have;
-        rest = waiting_after link steps law titles Waits fifo hall end.system A s.rest (subst (λ (n : ℕ). first_due n A.entity ≡ None) s.shows.clock goes.rest.idle);
-      };
-      holds = kept.deed r.w journal made old new hall.posts (hall.posts ++ posted end.system A.tpdus) r.explains (Row (record {
-        system = end.system;
-        entity = entity;
-        there = there;
-        reference = end.reference;
-        end = k.end;
-        stands = k.stands;
-        event = Called call;
-        alone = tt;
-        fit = tt;
-        sourced = tt;
-        may = (k.allowed, proper);
-        unnamed = λ n named. named;
-        place = Some (end_of m);
-        place_is = λ e same. same_end e same;
-        stays = λ none. refl;
-        entities = ap (λ (v : World C). v.entities) acts.becomes ∙ ap (λ (z : Acted). with_entity old.entities end.system z.entity) is;
-        ends = ap (λ (v : World C). v.ends) acts.becomes ∙ ap (λ (z : Acted). ends_after old.ends end.system z.events) is;
-        clock = a.shows.clock ∙ sym s.shows.clock;
-        later_is = ap (λ (z : Acted). hall.posts ++ posted end.system z.tpdus) is;
-      })) holds;
-    }
-      where
-        A : Acted
-        A = calling whole now entity end.reference call
-
-        k : IsTaker entity end.reference call
-        k = taker entity end.reference call allowed
-
-        m : Moved
-        m = stepped whole (link old.carrier).clock k.end (Called call)
-
-        same_end : (e : End) → Some (end_of m) ≡ Some e → e ≡ end_of m
-        same_end e same = cc same
-
-        is : A ≡ moved (at now entity) end.reference m
-        is = ap (calling_end whole now (at now entity) end.reference call) k.stands
-
-        was : IsEntityKept titles end.system entity
-        was = s.kept end.system entity (there_in end.system entity there)
-
-        goes : IsProperStep now A
-        goes = calling_rests whole now end.reference entity call (at_rest end.system entity there) allowed proper
-
-        fine : ActsFine (IsAddress titles) entity.own A
-        fine = calling_fine (IsAddress titles) whole now entity end.reference call was.ends
-
-        a : Acting link steps law titles Waits fifo hall end.system entity.own A later new
-        a = acts_go link steps law titles Waits fifo old new hall queue end.system was.title entity.own A later s.shows was.title_is was.own fine goes.tpdus (behind_lines (call_events number call) made later made_is all) acts
-
-    call_by : (number : ℕ) (end : EndAt) (entity : Entity) (call : UserCall) (why : Option EntityRefusal) → entity_at old.entities end.system ≡ Some entity → IsCall call
-        → user_refusal entity end.reference call ≡ why → CallsBy link steps whole old number end entity call why made new → Reaches (journal ++ made) new
-    call_by number end entity call (Some why) there proper is step = refused_reaches journal made old new hall queue (told_refusal why) s step holds
-    call_by number end entity call None there proper is step = taken_reaches number end entity call there is proper step.0 step.1 step.2
-
-    call_end : (number : ℕ) (end : EndAt) (entity : Entity) (call : UserCall) (ended : Bool) → entity_at old.entities end.system ≡ Some entity → IsCall call
-        → CallsEnd link steps whole old number end entity call ended made new → Reaches (journal ++ made) new
-    call_end number end entity call true there proper step = refused_reaches journal made old new hall queue (Some refusals.Ended) s step holds
-    call_end number end entity call false there proper step = call_by number end entity call (user_refusal entity end.reference call) there proper refl step
-
-    call_at : (number : ℕ) (call : UserCall) (end : Option EndAt) → IsCall call → CallsAt link steps whole old number call end made new → Reaches (journal ++ made) new
-    call_at number call None proper step = refused_reaches journal made old new hall queue (Some refusals.NoSuchEnd) s step holds
-    call_at number call (Some end) proper step = call_end number end step.0 call (has_ended now old.ends number end step.0) step.1 proper step.2
-
-    -- a connect
-    begun_reaches : (system : ℕ) (entity : Entity) (request : ConnectRequest) (reference : ℕ) → entity_at old.entities system ≡ Some entity → IsAsked titles request → length request.octets ≤ 32
-        → least_free now entity ≡ Some reference → BeginsAt link steps old system entity request (Some reference) made new → Reaches (journal ++ made) new
-    begun_reaches system entity request reference there asked octets free step = record {
-      hall = after begun_hall system A;
-      queue = a.queue;
-      stands = record {
-        shows = a.shows;
-        kept = kept_after titles hall.entities system entity A s.kept (there_in system entity there) goes.rest.proper fine;
-        have = have_after titles hall.entities system A.entity s.have;
-        rest = waiting_after link steps law titles Waits fifo hall system A s.rest (subst (λ (n : ℕ). first_due n A.entity ≡ None) s.shows.clock goes.rest.idle);
-      };
-      holds = kept.deed r.w journal made old new hall.posts (hall.posts ++ posted system A.tpdus) r.explains (New (record {
-        system = system;
-        entity = entity;
-        there = there;
-        request = request;
-        reference = reference;
-        free = free;
-        entities = ap (λ (v : World C). v.entities) step.1.becomes;
-        ends = ap (λ (v : World C). v.ends) step.1.becomes;
-        clock = a.shows.clock ∙ sym s.shows.clock;
-        later_is = refl;
-      })) holds;
-    }
-      where
-        place : List EndAt
-        place = record { system = system; reference = reference } ∷ []
-
-        event : Event
-        event = connect_event (length old.ends + 1) system reference entity.own request
-
-        begun_hall : Hall
-        begun_hall = with_new hall system reference
-
-        begins : World C
-        begins = record old { ends = old.ends ++ place }
-
-        A : Acted
-        A = connecting now entity reference request
-
-        was : IsEntityKept titles system entity
-        was = s.kept system entity (there_in system entity there)
-
-        proper : IsProperCall (call_of entity reference request)
-        proper = record { timers = was.proper.timers; size = asked.size; calling = asked.calling; called = asked.called; octets = octets }
-
-        goes : IsProperStep now A
-        goes = connecting_rests now reference entity request (at_rest system entity there) free proper
-
-        fine : ActsFine (IsAddress titles) entity.own A
-        fine = connecting_fine (IsAddress titles) now entity reference request was.ends asked.address
-
-        shows : IsHall link titles Waits begins begun_hall queue
-        shows = record { clock = s.shows.clock; entities = s.shows.entities; ends = ap (λ (es : List EndAt). es ++ place) s.shows.ends; waits = s.shows.waits; units = s.shows.units }
-
-        a : Acting link steps law titles Waits fifo begun_hall system entity.own A step.0 new
-        a = acts_go link steps law titles Waits fifo begins new begun_hall queue system was.title entity.own A step.0 shows was.title_is was.own fine goes.tpdus (behind_lines (event ∷ []) made step.0 step.2 all) step.1
-
-    begun : (system : ℕ) (entity : Entity) (request : ConnectRequest) (found : Option ℕ) → entity_at old.entities system ≡ Some entity → IsAsked titles request → length request.octets ≤ 32
-        → least_free now entity ≡ found → BeginsAt link steps old system entity request found made new → Reaches (journal ++ made) new
-    begun system entity request None there asked octets least step = absurd step
-    begun system entity request (Some reference) there asked octets least step = begun_reaches system entity request reference there asked octets least step
-
-    connect_by : (system : ℕ) (entity : Entity) (request : ConnectRequest) (why : Option ConnectRefusal) → entity_at old.entities system ≡ Some entity → IsAsked titles request
-        → connect_refusal now entity request.octets ≡ why → ConnectsBy link steps old system entity request why made new → Reaches (journal ++ made) new
-    connect_by system entity request (Some why) there asked is step = refused_reaches journal made old new hall queue (told_connect why) s step holds
-    connect_by system entity request None there asked is step = begun system entity request (least_free now entity) there asked (short now entity request.octets is) refl step
-
-    connect_reaches : (system : ℕ) (request : ConnectRequest) → IsAsked titles request → Connects link steps old system request made new → Reaches (journal ++ made) new
-    connect_reaches system request asked step = connect_by system step.0 request (connect_refusal now step.0 request.octets) step.1 asked refl step.2
-
-    -- a raw unit
-    raw_queued : (unit : CarriedUnit (List ℕ)) (answer : Offered) → selector_of unit.to ≡ 2 → AreUnitsOf titles (queued queue unit answer) hall.posts
-    raw_queued unit WasTaken raw = raw_behind titles queue hall.posts unit s.shows.units raw
-    raw_queued unit (Dropped cause) raw = s.shows.units
-
-    raw_reaches : (system to : ℕ) (sender receiver : List ℕ) (wish : Wish) (octets : List ℕ) (below : C) → slice_get titles system ≡ Some sender → slice_get titles to ≡ Some receiver → wish.path ≡ 0
-        → SendsUnit link steps old.carrier system sender receiver wish octets made below → new ≡ record old { carrier = below } → Reaches (journal ++ made) new
-    raw_reaches system to sender receiver wish [] below title_is to_is path step becomes =
-        same_reaches journal made old new hall queue s (becomes ∙ ap (λ (c : C). record old { carrier = c }) step.1) holds
-    raw_reaches system to sender receiver wish (octet ∷ octets) below title_is to_is path step becomes =
-        let unit : CarriedUnit (List ℕ) = raw_unit sender receiver (octet ∷ octets) in
-        let event : Event = sent_event system (raw_address receiver) (octet ∷ octets) step.0 in
-        let between : IsBetween titles unit = record {
-          sender = system;
-          receiver = to;
-          from = record { title = sender; title_is = title_is; selector = 2; known = inr refl; address_is = refl };
-          to = record { title = receiver; title_is = to_is; selector = 2; known = inr refl; address_is = refl };
-        } in
-        let goes = fifo.offered old.carrier below queue unit wish step.0 step.1 s.shows.waits between path step.2 (none_dropped step.1 (behind_lines (event ∷ []) made (told step.1) step.3 all)) in
-        let clock : (link below).clock ≡ (link old.carrier).clock = step.2.gathers.stands.clock ∙ (law old.carrier (Offer unit wish step.0) step.2.called step.2.steps_to).clock in
-        let shows : IsHall link titles Waits (record old { carrier = below }) hall (queued queue unit step.0) = record {
-          clock = clock ∙ s.shows.clock;
-          entities = s.shows.entities;
-          ends = s.shows.ends;
-          waits = goes.1;
-          units = raw_queued unit step.0 (selector_of-append (system_part receiver) 2);
-        } in
-        still_reaches journal made old new hall queue (queued queue unit step.0) s (subst (λ (v : World C). IsHall link titles Waits v hall (queued queue unit step.0)) (sym becomes) shows)
-        (record { entities = ap (λ (v : World C). v.entities) becomes; ends = ap (λ (v : World C). v.ends) becomes }) (ap (λ (v : World C). (link v.carrier).clock) becomes ∙ clock) holds
-
-  -- ---- a tick
-
-  -- within a tick
-  record InTick (journal : List Event) (world : World C) : Type 0 where
-    w : Whole
-    explains : Explains link names timers w journal world
-    hall : Hall
-    queue : List (CarriedUnit (List ℕ))
-    shows : IsHall link titles Waits world hall queue
-    fine : AreKept titles hall.entities
-    in_time : AreAllInTime hall.clock hall.entities
-    holds : P journal world hall.posts
-
-  silent : (now : ℕ) (e : Entity) → first_due now e ≡ None → (ticking whole now e).entity ≡ at now e
-  silent now e none = ap (λ (o : Option ℕ). (ticking_at whole now (at now e) o).entity) none
-
-  -- no end of an entity is due
-  entity_over : (system : ℕ) (old : World C) (made : List Event) (new : World C) (entity : Entity) → entity_at old.entities system ≡ Some entity → first_due (clock_of link steps old) entity ≡ None → made ≡ []
-      → new ≡ record old { entities = with_entity old.entities system (ticking whole (clock_of link steps old) entity).entity } → (journal : List Event) → InTick journal old → InTick (journal ++ made) new
-  entity_over system old made new entity there_it none made_is becomes journal t =
-      let now : ℕ = (link old.carrier).clock in
-      let becomes_so : new ≡ record old { entities = with_entity old.entities system (at now entity) } = becomes ∙ ap (λ (e : Entity). record old { entities = with_entity old.entities system e }) (silent now entity none) in
-      let becomes_as : new ≡ record old { entities = with_entity old.entities system (at t.w.base.clock entity) } =
-      becomes_so ∙ ap (λ (n : ℕ). record old { entities = with_entity old.entities system (at n entity) }) t.explains.carries.clock in
-      let next_hall : Hall = record t.hall { entities = with_entity t.hall.entities system (at t.hall.clock entity) } in
-      let there_now : entity_at t.hall.entities system ≡ Some entity = sym (ap (λ (ps : List Placed). entity_at ps system) t.shows.entities) ∙ there_it in
-      let was = t.fine system entity there_now in
-      let fine : ActsFine (IsAddress titles) entity.own (record { entity = at t.hall.clock entity; events = []; tpdus = [] }) = record { own_is = refl; ends = was.ends; tpdus = tt } in
-      let proper : AreProper (at t.hall.clock entity) = record { timers = was.proper.timers; inactive = was.proper.inactive; ends = was.proper.ends } in
-      let went = went_nowhere names timers (Known names timers) IsOffered (plain_kept names timers) link steps law (follow names timers).aside t.w journal made
-      (record old { entities = with_entity old.entities system (at t.w.base.clock entity) }) new
-      (record { known = (plain_kept names timers).clock t.w journal old.entities old.ends t.explains.known system entity there_it; carries = t.explains.carries }) made_is becomes_as in
-      record {
-        w = went.next;
-        explains = went.explains;
-        hall = next_hall;
-        queue = t.queue;
-        shows = record {
-          clock = ap (λ (v : World C). (link v.carrier).clock) becomes_so ∙ t.shows.clock;
-          entities = ap (λ (v : World C). v.entities) becomes_so ∙ (λ i. with_entity (t.shows.entities i) system (at (t.shows.clock i) entity));
-          ends = ap (λ (v : World C). v.ends) becomes_so ∙ t.shows.ends;
-          waits = subst (λ (v : World C). Waits v.carrier t.queue) (sym becomes_so) t.shows.waits;
-          units = t.shows.units;
-        };
-        fine = kept_after titles t.hall.entities system entity (record { entity = at t.hall.clock entity; events = []; tpdus = [] }) t.fine there_now proper fine;
-        in_time = in_time_with t.hall.clock t.hall.entities system (at t.hall.clock entity) t.in_time (t.in_time system entity there_now);
-        holds = kept.deed t.w journal made old new t.hall.posts t.hall.posts t.explains (Over (record {
-          system = system;
-          entity = entity;
-          there = there_it;
-          entities = ap (λ (v : World C). v.entities) becomes_so;
-          ends = ap (λ (v : World C). v.ends) becomes_so;
-          clock = ap (λ (v : World C). (link v.carrier).clock) becomes_so;
-          later_is = refl;
-        })) t.holds;
-      }
-
-  -- one is due
-  entity_ticks_one : (system : ℕ) (old mid : World C) (here : List Event) (entity : Entity) (reference : ℕ) → entity_at old.entities system ≡ Some entity
-      → first_due (clock_of link steps old) entity ≡ Some reference → Acts link steps old system entity.own (ticking whole (clock_of link steps old) entity) here mid → AllByRecursion IsUndropped here
-      → (o : End) → end_at entity reference ≡ Some o → (journal : List Event) → InTick journal old → InTick (journal ++ here) mid
-  entity_ticks_one system old mid here entity reference there_it due_at acts all o stands journal t = record {
-    w = went.next;
-    explains = went.explains;
-    hall = after t.hall system A;
-    queue = a.queue;
-    shows = a.shows;
-    fine = kept_after titles t.hall.entities system entity A t.fine there_now proper.proper fine;
-    in_time = in_time_with t.hall.clock t.hall.entities system A.entity t.in_time (subst (λ (n : ℕ). AreInTime n A.entity) t.shows.clock proper.in_time);
-    holds = kept.deed t.w journal here old mid t.hall.posts (t.hall.posts ++ posted system A.tpdus) t.explains (Row (record {
-      system = system;
-      entity = entity;
-      there = there_it;
-      reference = reference;
-      end = o;
-      stands = stands;
-      event = Ticked;
-      alone = tt;
-      fit = tt;
-      sourced = tt;
-      may = tt;
-      unnamed = λ n named. named;
-      place = kept_end m (due m.base m.stage);
-      place_is = kept_is m (due m.base m.stage);
-      stays = λ none. going_kept m m.base m.stage none;
-      entities = ap (λ (v : World C). v.entities) acts.becomes ∙ ap (λ (z : Acted). with_entity old.entities system z.entity) is;
-      ends = ap (λ (v : World C). v.ends) acts.becomes ∙ ap (λ (z : Acted). ends_after old.ends system z.events) is;
-      clock = a.shows.clock ∙ sym t.shows.clock;
-      later_is = ap (λ (z : Acted). t.hall.posts ++ posted system z.tpdus) is;
-    })) t.holds;
-  }
-    where
-      now : ℕ
-      now = (link old.carrier).clock
-
-      A : Acted
-      A = ticking whole (link old.carrier).clock entity
-
-      m : Moved
-      m = stepped whole (link old.carrier).clock o Ticked
-
-      there_now : entity_at t.hall.entities system ≡ Some entity
-      there_now = sym (ap (λ (ps : List Placed). entity_at ps system) t.shows.entities) ∙ there_it
-
-      was : IsEntityKept titles system entity
-      was = t.fine system entity there_now
-
-      fine : ActsFine (IsAddress titles) entity.own A
-      fine = ticking_fine (IsAddress titles) whole now entity was.ends
-
-      in_time_now : AreInTime now entity
-      in_time_now = subst (λ (n : ℕ). AreInTime n entity) (sym t.shows.clock) (t.in_time system entity there_now)
-
-      proper : IsProperTick now A
-      proper = ticking_proper whole now entity was.proper in_time_now
-
-      is : A ≡ ticked_to (at now entity) reference m
-      is = ap (ticking_at whole now (at now entity)) due_at ∙ ap (ticking_end whole now (at now entity) reference) stands
-
-      a : Acting link steps law titles Waits fifo t.hall system entity.own A here mid
-      a = acts_go link steps law titles Waits fifo old mid t.hall t.queue system was.title entity.own A here t.shows was.title_is was.own fine proper.tpdus all acts
-
-      went : Went names timers (Known names timers) IsOffered (plain_kept names timers) link steps law (follow names timers).aside t.w (journal ++ here) mid
-      went = subst (λ (xs : List Event). Went names timers (Known names timers) IsOffered (plain_kept names timers) link steps law (follow names timers).aside t.w (xs ++ here) mid) (append-nil journal)
-          (went_on names timers (Known names timers) IsOffered (plain_kept names timers) link steps law (follow names timers).aside t.w journal [] here old mid system entity.own (ticking whole t.w.base.clock entity) t.explains.carries
-          ((follow names timers).ticks t.w journal old.entities old.ends system entity reference t.explains.known there_it (subst (λ (n : ℕ). first_due n entity ≡ Some reference) t.explains.carries.clock due_at))
-          (subst (λ (n : ℕ). Acts link steps old system entity.own (ticking whole n entity) here mid) t.explains.carries.clock acts))
-
-  behind : (new : World C) (journal made here rest : List Event) → InTick ((journal ++ here) ++ rest) new → made ≡ here ++ rest → InTick (journal ++ made) new
-  behind new journal made here rest t is = subst (λ (es : List Event). InTick es new) (append_assoc journal here rest ∙ ap (λ (es : List Event). journal ++ es) (sym is)) t
-
-  entity_ticks : (system : ℕ) (old : World C) (made : List Event) (new : World C) → TicksEntity link steps whole system old made new → AllByRecursion IsUndropped made → (journal : List Event) → InTick journal old
-      → InTick (journal ++ made) new
-  entity_ticks system old made new (NoneDue o m n entity there_it none made_is becomes) all journal t = entity_over system old made new entity there_it none made_is becomes journal t
-  entity_ticks system old made new (OneDue o m n entity reference mid here rest there_it due_at acts more made_is) all journal t =
-      let parts = all_parts IsUndropped here rest (subst (λ (es : List Event). AllByRecursion IsUndropped es) made_is all) in
-      let e = due_end (clock_of link steps old) (end_at entity reference) (due_is (clock_of link steps old) entity reference due_at) in
-      behind new journal made here rest
-      (entity_ticks system mid rest new more parts.1 (journal ++ here) (entity_ticks_one system old mid here entity reference there_it due_at acts parts.0 e.0 e.1 journal t)) made_is
-
-  all_tick : (placed : List Placed) (old : World C) (made : List Event) (new : World C) → TicksAll link steps whole old placed made new → AllByRecursion IsUndropped made → (journal : List Event) → InTick journal old
-      → InTick (journal ++ made) new
-  all_tick [] old made new step all journal t =
-      subst (λ (es : List Event). InTick es new) (sym (append-nil journal) ∙ ap (λ (es : List Event). journal ++ es) (sym step.0)) (subst (λ (v : World C). InTick journal v) (sym step.1) t)
-  all_tick (one ∷ placed) old made new step all journal t =
-      let parts = all_parts IsUndropped step.1 step.2 (subst (λ (es : List Event). AllByRecursion IsUndropped es) step.5 all) in
-      behind new journal made step.1 step.2 (all_tick placed step.0 step.2 new step.4 parts.1 (journal ++ step.1) (entity_ticks one.system old step.1 step.0 step.3 parts.0 journal t)) step.5
-
-  tick_reaches : (old new : World C) (made : List Event) (hall : Hall) (queue : List (CarriedUnit (List ℕ))) (journal : List Event) → So old hall queue → queue ≡ [] → Resting journal old
-      → AllByRecursion IsUndropped made → Ticks link steps whole old made new → P journal old hall.posts → Reaches (journal ++ made) new
-  tick_reaches old new made hall queue journal s none r all step holds = record {
-    hall = t.hall;
-    queue = t.queue;
-    stands = record {
-      shows = t.shows;
-      kept = t.fine;
-      have = subst (HaveEntities titles) (sym went.shows.entities ∙ t.shows.entities) went.have;
-      rest = subst (λ (ps : List Placed). AreWaiting t.hall.clock ps) (sym went.shows.entities ∙ t.shows.entities)
-          (subst (λ (n : ℕ). AreWaiting n went.next.entities) (sym went.shows.clock ∙ t.shows.clock) went.rest);
-    };
-    holds = t.holds;
-  }
-    where
-      went : calm.Went link steps law titles Waits fifo hall made new
-      went = calm_ticking.ticked link steps law titles Waits fifo old new made hall queue s none all step
-
-      front : List Event
-      front = events.Tick ((link old.carrier).clock + 1) ∷ told step.ups
-
-      mid : World C
-      mid = record old { carrier = step.below }
-
-      parts : AllByRecursion IsUndropped (told step.ups) × AllByRecursion IsUndropped step.later
-      parts = all_parts IsUndropped (told step.ups) step.later (subst (λ (es : List Event). AllByRecursion IsUndropped es) step.made_is all).1
-
-      posts : hall.posts ≡ []
-      posts = none_waits hall queue none s.shows.units
-
-      aside : IsAside front
-      aside = are_aside front (record { submits = λ end. refl; shows = λ end. refl; makes = refl }, told_quiet step.ups)
-
-      clock : (link step.below).clock ≡ (link old.carrier).clock + 1
-      clock = step.passes.gathers.stands.clock ∙ (law old.carrier Tick step.passes.called step.passes.steps_to).clock
-
-      later : Whole
-      later = onward (times_of timers) r.w (record { step = HistoryTick; doing = Nothing })
-
-      waiting : AreWaiting (link old.carrier).clock old.entities
-      waiting system e is =
-          subst (λ (n : ℕ). first_due n e ≡ None) (sym s.shows.clock) (s.rest system e (sym (ap (λ (ps : List Placed). entity_at ps system) s.shows.entities) ∙ is))
-
-      start : InTick (journal ++ front) mid
-      start = record {
-        w = later;
-        explains = record {
-          known = (follow names timers).clock r.w journal front old.entities old.ends r.explains.known (λ system e is. (r.rest system e is).1) aside;
-          carries = tick_goes IsOffered (plain_kept names timers).grows timers.life link steps law r.w.base later.base old.carrier step.below step.ups r.explains.carries refl (λ offer there. there) step.passes;
-        };
-        hall = record hall { clock = hall.clock + 1 };
-        queue = [];
-        shows = record {
-          clock = clock ∙ ap (λ (n : ℕ). n + 1) s.shows.clock;
-          entities = s.shows.entities;
-          ends = s.shows.ends;
-          waits = (fifo.ticked old.carrier step.below step.ups (subst (Waits old.carrier) none s.shows.waits) step.passes (none_dropped step.ups parts.0)).1;
-          units = posts;
-        };
-        fine = s.kept;
-        in_time = λ system e is. (waits hall.clock e (s.rest system e is)).1;
-        holds = subst (P (journal ++ front) mid) (sym posts) (kept.clocks journal front old mid (record { entities = refl; ends = refl }) clock waiting (subst (P journal old) posts holds));
-      }
-
-      t : InTick (journal ++ made) new
-      t = behind new journal made front step.later (all_tick old.entities mid step.later new step.all parts.1 (journal ++ front) start) step.made_is
-
-  -- ---- a settle
-
-  one_goes : (old mid : World C) (journal made : List Event) (hall : Hall) (queue : List (CarriedUnit (List ℕ))) (pair : ℕ × ℕ) → So old hall queue → IsLeastFresh (link old.carrier) (Some pair)
-      → Resting journal old → IsFitWorld link old → AllByRecursion IsUndropped made → P journal old hall.posts → Delivers link steps whole old pair.0 pair.1 WasPicked made mid → Reaches (journal ++ made) mid
-  one_goes old mid journal made hall queue pair s fresh r fit all holds d = elim (delivered link steps law titles Waits fifo old mid hall queue made pair s fresh all d) [
-    | inl still ↦ record {
-      hall = hall;
-      queue = still.queue;
-      stands = still.stands;
-      holds = kept.still journal made old mid hall.posts (record { entities = still.entities; ends = still.ends }) still.clock holds;
-    }
-    | inr come ↦ record {
-      hall = after (record hall { posts = come.rest }) come.a.system come.a.acted;
-      queue = come.queue;
-      stands = come.stands;
-      holds = kept.deed r.w journal made old mid hall.posts (come.rest ++ posted come.a.system come.a.acted.tpdus) r.explains
-          (Heard (record { fit = fit; post = come.post; rest = come.rest; posts_are = come.posts_are; made = made; acts = come.a; later_is = refl })) holds;
-    }
-  ]
-
-  -- nothing waits, and it is kept
-  record Settled (journal : List Event) (new : World C) : Type 0 where
-    reached : Reaches journal new
-    none : reached.queue ≡ []
-
-  settle_reaches : (count : ℕ) (old : World C) (made : List Event) (new : World C) → Settles link steps whole count old made new → (journal : List Event) (hall : Hall) (queue : List (CarriedUnit (List ℕ)))
-      → So old hall queue → Resting journal old → IsFitWorld link old → AllByRecursion IsUndropped made → P journal old hall.posts → Settled (journal ++ made) new
-  unfolding same_reaches still_reaches
-  settle_reaches count old made new (NoneLeft n o m l fresh made_is same) journal hall queue s r fit all holds =
-      record { reached = same_reaches journal made old new hall queue s same holds; none = fifo.none old.carrier queue s.shows.waits fresh }
-  settle_reaches count old made new (TooMany n o m l pair fresh most made_is same) journal hall queue s r fit all holds = absurd (subst (λ (es : List Event). AllByRecursion IsUndropped es) made_is all).0
-  settle_reaches count old made new (OneMore n o m l pair mid here rest fresh low delivers settles made_is) journal hall queue s r fit all holds =
-      let parts = all_parts IsUndropped here rest (subst (λ (es : List Event). AllByRecursion IsUndropped es) made_is all) in
-      let one : Reaches (journal ++ here) mid = one_goes old mid journal here hall queue pair s fresh r fit parts.0 holds delivers in
-      let honest = line_alike link steps law whole titles (lines.Deliver pair.0 pair.1) old mid here tt (WasPicked, delivers) ∙ r.explains.carries.honest in
-      let rests : Resting (journal ++ here) mid = did_rests link steps law titles Waits fifo names timers going follow timed (requests.Deliver pair.0 pair.1 WasPicked) old mid journal here tt honest r delivers in
-      let fits : IsFitWorld link mid = (ended.delivered link steps law whole old mid here pair.0 pair.1 WasPicked fit delivers).fit in
-      subst (λ (es : List Event). Settled es new) (append_assoc journal here rest ∙ ap (λ (es : List Event). journal ++ es) (sym made_is))
-      (settle_reaches (count + 1) mid rest new settles (journal ++ here) one.hall one.queue one.stands rests fits parts.1 one.holds)
-
-  -- ---- the lines
-
-  abbrev MayGo : List (CarriedUnit (List ℕ)) → List Line → Type 0
-  MayGo queue script = (queue ≡ []) ⊎ IsSettledNext script
-
-  -- a line, and whether the next one may go
-  record Passed (journal : List Event) (new : World C) (script : List Line) : Type 0 where
-    reached : Reaches journal new
-    may : MayGo reached.queue script
-    calm_next : IsSettledScript script
-
-  line_passes : (line : Line) (script : List Line) (old new : World C) (journal made : List Event) (hall : Hall) (queue : List (CarriedUnit (List ℕ))) → So old hall queue → Resting journal old → IsFitWorld link old
-      → MayGo queue (line ∷ script) → IsSettledScript (line ∷ script) → IsProperLine line → IsUnrouted line → AllByRecursion IsUndropped made → P journal old hall.posts
-      → RunsLine link steps whole titles old line made new → Passed (journal ++ made) new script
-  unfolding same_reaches still_reaches
-  line_passes lines.Nothing script old new journal made hall queue s r fit may settled proper path all holds step =
-      record { reached = same_reaches journal made old new hall queue s step.1 holds; may = may; calm_next = settled }
-  line_passes lines.Settle script old new journal made hall queue s r fit may settled proper path all holds step =
-      let on = settle_reaches 0 old made new step journal hall queue s r fit all holds in
-      record { reached = on.reached; may = inl on.none; calm_next = settled }
-  line_passes (lines.Connect system selector to called_selector options octets) script old new journal made hall queue s r fit (inl none) settled proper path all holds step =
-      let asks = step.4 in
-      record {
-        reached = connect_reaches old new journal made hall queue s r all holds system step.1
-            (record {
-              size = subst (λ (o : Options). IsSized o) (sym step.3) proper.0;
-              calling = subst (λ (o : List ℕ). length o ≤ 32) (sym asks.0) proper.1;
-              called = subst (λ (o : List ℕ). length o ≤ 32) (sym asks.2) proper.2;
-              address = record { system = to; title = step.0; title_is = step.2; address_is = asks.1 };
-            }) asks.4;
-        may = inr settled.0;
-        calm_next = settled.1;
-      }
-  line_passes (lines.Accept end options octets) script old new journal made hall queue s r fit (inl none) settled proper path all holds step =
-      record { reached = call_at old new journal made hall queue s r all holds end (asks.Accept options octets) (end_numbered old.ends end) proper step; may = inr settled.0; calm_next = settled.1 }
-  line_passes (lines.Refuse end octets) script old new journal made hall queue s r fit (inl none) settled proper path all holds step =
-      record { reached = call_at old new journal made hall queue s r all holds end (asks.Refuse octets) (end_numbered old.ends end) tt step; may = inr settled.0; calm_next = settled.1 }
-  line_passes (lines.Disconnect end octets) script old new journal made hall queue s r fit (inl none) settled proper path all holds step =
-      record { reached = call_at old new journal made hall queue s r all holds end (asks.Disconnect octets) (end_numbered old.ends end) tt step; may = inr settled.0; calm_next = settled.1 }
-  line_passes (lines.Data end octets) script old new journal made hall queue s r fit (inl none) settled proper path all holds step =
-      record { reached = call_at old new journal made hall queue s r all holds end (asks.Normal octets) (end_numbered old.ends end) tt step; may = inr settled.0; calm_next = settled.1 }
-  line_passes (lines.Expedite end octets) script old new journal made hall queue s r fit (inl none) settled proper path all holds step =
-      record { reached = call_at old new journal made hall queue s r all holds end (asks.Urgent octets) (end_numbered old.ends end) tt step; may = inr settled.0; calm_next = settled.1 }
-  line_passes (lines.Window end credit) script old new journal made hall queue s r fit (inl none) settled proper path all holds step =
-      record { reached = call_at old new journal made hall queue s r all holds end (asks.Window credit) (end_numbered old.ends end) proper step; may = inr settled.0; calm_next = settled.1 }
-  line_passes (lines.Unit system to wish octets) script old new journal made hall queue s r fit (inl none) settled proper path all holds step =
-      record { reached = raw_reaches old new journal made hall queue s r all holds system to step.0 step.1 wish octets step.4.0 step.2 step.3 path step.4.1 step.4.2; may = inr settled.0; calm_next = settled.1 }
-  line_passes lines.Tick script old new journal made hall queue s r fit (inl none) settled proper path all holds step =
-      record { reached = tick_reaches old new made hall queue journal s none r all step holds; may = inr settled.0; calm_next = settled.1 }
-  line_passes (lines.Deliver number system) script old new journal made hall queue s r fit may settled proper path all holds step = absurd settled
-  line_passes (lines.Inject lan system octets) script old new journal made hall queue s r fit may settled proper path all holds step = absurd settled
-  line_passes (lines.Restart system) script old new journal made hall queue s r fit may settled proper path all holds step = absurd settled
-  line_passes line script old new journal made hall queue s r fit (inr next) settled proper path all holds step = absurd next
-  line_passes line script old new journal made hall queue s r fit (inl none) settled proper path all holds step = absurd step
-
-  pub lines_reach : (script : List Line) (old last : World C) (journal late : List Event) (hall : Hall) (queue : List (CarriedUnit (List ℕ))) → So old hall queue → Resting journal old → IsFitWorld link old
-      → MayGo queue script → IsSettledScript script → AllByRecursion IsProperLine script → AllByRecursion IsUnrouted script → AllByRecursion IsUndropped late → P journal old hall.posts
-      → RunsLines link steps whole titles old script late last → HasReached link names timers P (journal ++ late) last
-  lines_reach [] old last journal late hall queue s r fit (inr next) settled proper path all holds run = absurd next
-  lines_reach [] old last journal late hall queue s r fit (inl none) settled proper path all holds run = record {
-    w = r.w;
-    explains = subst (λ (v : World C). Explains link names timers r.w (journal ++ late) v) (sym run.1)
-        (subst (λ (es : List Event). Explains link names timers r.w es old) (sym (append-nil journal) ∙ ap (λ (es : List Event). journal ++ es) (sym run.0)) r.explains);
-    holds = subst (P (journal ++ late) last) (none_waits hall queue none s.shows.units)
-        (kept.still journal late old last hall.posts (same_of old last run.1) (ap (λ (v : World C). (link v.carrier).clock) run.1) holds);
-    waiting = subst (λ (v : World C). AreWaiting (link v.carrier).clock v.entities) (sym run.1) waiting;
-  }
-    where
-      waiting : AreWaiting (link old.carrier).clock old.entities
-      waiting system e is =
-          subst (λ (n : ℕ). first_due n e ≡ None) (sym s.shows.clock) (s.rest system e (sym (ap (λ (ps : List Placed). entity_at ps system) s.shows.entities) ∙ is))
-  lines_reach (line ∷ script) old last journal late hall queue s r fit may settled proper path all holds run =
-      let parts = all_parts IsUndropped run.1 run.2 (subst (λ (es : List Event). AllByRecursion IsUndropped es) run.4 all) in
-      let first : Passed (journal ++ run.1) run.0 script = line_passes line script old run.0 journal run.1 hall queue s r fit may settled proper.0 path.0 parts.0 holds run.3 in
-      let honest = line_honest link steps law titles Waits fifo names timers going follow timed line script old run.0 run.1 settled r.explains.carries.honest run.3 in
-      let rests : Resting (journal ++ run.1) run.0 = line_rests link steps law titles Waits fifo names timers going follow timed line script old run.0 journal run.1 settled proper.0 honest r run.3 in
-      let fits : IsFitWorld link run.0 = (line_went link steps law whole titles line old run.0 run.1 fit run.3).fit in
-      subst (λ (es : List Event). HasReached link names timers P es last) (append_assoc journal run.1 run.2 ∙ ap (λ (es : List Event). journal ++ es) (sym run.4))
-      (lines_reach script run.0 last (journal ++ run.1) run.2 first.reached.hall first.reached.queue first.reached.stands rests fits first.may first.calm_next proper.1 path.1 parts.1 first.reached.holds run.5)

@@ -33,7 +33,7 @@ use Rattle.law_recovery_service.specs.Recovered.{IsOver}
 use Rattle.law_recovery_wire.proofs.Wired.{run_above}
 use Rattle.law_recovery_service.specs.Halves.{HalvesFollow, HasFollowed, IndicationsEnd, IsFrozenOrGone, IsNotAccepted, KnowsPartner}
 use Rattle.law_recovery_halves.specs.Laws.{FollowsOnWire, RunsEndIndications}
-use Rattle.law_recovery_halves.proofs.Ending.{left_by_number}
+use Rattle.law_recovery_script.proofs.Numbers.{left_by_number}
 
 -- ---- states
 
@@ -41,37 +41,21 @@ knows_above : (stage : StateData) → KnowsPartner (stage_on_wire stage) → Kno
 knows_above (stages.UserWait since) knows = tt
 knows_above (stages.AkWait w) knows = tt
 knows_above (stages.Opened o) knows = tt
-knows_above (stages.CrWait w) knows = knows
-knows_above (stages.WaitBeforeClose w) knows = knows
-knows_above (stages.Closing c) knows = knows
-knows_above (stages.Frozen when) knows = knows
+knows_above stage knows = knows
 
 left_above : (stage : StateData) → HasLeft (stage_on_wire stage) → HasLeft stage
-left_above (stages.UserWait since) left = left
-left_above (stages.AkWait w) left = left
-left_above (stages.Opened o) left = left
-left_above (stages.CrWait w) left = left
 left_above (stages.WaitBeforeClose w) left = tt
 left_above (stages.Closing c) left = tt
 left_above (stages.Frozen when) left = tt
+left_above stage left = left
 
 frozen_above : (stage : StateData) → is_frozen (stage_on_wire stage) ≡ is_frozen stage
 frozen_above (stages.UserWait since) = refl
-frozen_above (stages.AkWait w) = refl
-frozen_above (stages.Opened o) = refl
-frozen_above (stages.CrWait w) = refl
-frozen_above (stages.WaitBeforeClose w) = refl
-frozen_above (stages.Closing c) = refl
-frozen_above (stages.Frozen when) = refl
+frozen_above stage = refl
 
 accepted_above : (stage : StateData) (lower : InAkWait) → stage_on_wire stage ≡ stages.AkWait lower → (v : InAkWait) × (stage ≡ stages.AkWait v)
 accepted_above (stages.AkWait v) lower is = (v, refl)
-accepted_above (stages.UserWait since) lower is = absurd (cc is)
-accepted_above (stages.Opened o) lower is = absurd (cc is)
-accepted_above (stages.CrWait w) lower is = absurd (cc is)
-accepted_above (stages.WaitBeforeClose w) lower is = absurd (cc is)
-accepted_above (stages.Closing c) lower is = absurd (cc is)
-accepted_above (stages.Frozen when) lower is = absurd (cc is)
+accepted_above stage lower is = absurd (cc is)
 
 -- ---- ends by their numbers
 
@@ -131,12 +115,7 @@ follow_on_wire {C} t t0 now early at_t0 last follow x y e partners at knows left
 -- an indication that no user has answered is the same there
 asked_above : (stage : StateData) (since : ℕ) → stage_on_wire stage ≡ stages.UserWait since → stage ≡ stages.UserWait since
 asked_above (stages.UserWait when) since is = is
-asked_above (stages.AkWait v) since is = absurd (cc is)
-asked_above (stages.Opened o) since is = absurd (cc is)
-asked_above (stages.CrWait w) since is = absurd (cc is)
-asked_above (stages.WaitBeforeClose w) since is = absurd (cc is)
-asked_above (stages.Closing c) since is = absurd (cc is)
-asked_above (stages.Frozen when) since is = absurd (cc is)
+asked_above stage since is = absurd (cc is)
 
 pub indications_on_wire : {C : Type 0} (t : Timers) (now : ℕ) (last : World C) → IndicationsEnd t now last → IndicationsEnd t now (world_on_wire last)
 indications_on_wire t now last ends x since e at is =

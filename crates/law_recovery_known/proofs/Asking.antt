@@ -1,5 +1,5 @@
 -- Two partners of which the one is in CrWait and the other in AkWait: what each keeps along the calls is what such a pair begins with.
-use Rattle.std.proofs.Common.{◌≡◌, ◌⊎◌, ◌≤◌, inl, inr, ℕ, List, sym, ◌∙◌, ap, subst}
+use Rattle.std.proofs.Common.{◌≡◌, ◌≤◌, ℕ, List, sym, ◌∙◌, ap, subst}
 use Rattle.osi_base.specs.Calls.{Call}
 use Rattle.osi_base.specs.Link.{Link}
 use Rattle.tp4_number.specs.Formats.{most_of}
@@ -8,28 +8,23 @@ use Rattle.tp4_conn.specs.Proper.{HasSize, IsProperStage}
 use Rattle.tp4_conn.specs.declared.halves.Halves.{Halves}
 use Rattle.tp4_conn.specs.declared.states.InAkWait.{InAkWait}
 use Rattle.tp4_conn.specs.declared.states.InCrWait.{InCrWait}
-use Rattle.tp4_conn.specs.declared.states.InOpened.{InOpened}
-use Rattle.tp4_conn.specs.declared.states.StateData.TheVariants.{AkWait, Opened}
+use Rattle.tp4_conn.specs.declared.states.StateData.TheVariants.{AkWait}
 use Rattle.tp4_conn.specs.declared.timers.Timers.{Timers}
 use Rattle.law_tp4_credit.specs.Giving.{KnowsCredit}
 use Rattle.script_journal.specs.declared.event.Event.{Event}
 use Rattle.law_tp4_history.specs.Tracks.{Whole}
-use Rattle.law_tp4_pair.specs.Pair.{Pair, back_units, forth_units}
-use Rattle.law_tp4_pair.specs.steps.Rest.{AreAtRest}
+use Rattle.law_tp4_pair.specs.Pair.{Pair}
 use Rattle.law_recovery_opening.specs.Laws.{AsksBegin, PairsOpen, PairsOpenRest}
 use Rattle.law_recovery_opening.specs.Opening.{as_confirmed}
-use Rattle.law_recovery_steps.specs.Resting.{HaveWindow}
-use Rattle.law_recovery_steps.specs.Showing.{AreCarried}
-use Rattle.law_recovery_steps.specs.Steps.{IsParted}
 use Rattle.tp4_world.specs.World.{World}
 use Rattle.law_tp4_lawful.proofs.Worlds.{Explains}
 use Rattle.law_tp4_lawful.proofs.ReferencesHalves.{known_at}
 use Rattle.law_recovery_world.specs.Laws.{CallsTell}
-use Rattle.law_recovery_world.specs.Steady.{AreSteady, IsSteady, StageMade, StageTells}
+use Rattle.law_recovery_world.specs.Steady.{AreSteady, IsSteady, StageMade}
 use Rattle.law_recovery_known.specs.Asking.{IsAskingPairOf, IsEndOf, IsKnownToAsk}
 use Rattle.law_recovery_known.specs.Laws.{AskersAreKnown, AskersOpen, AskersShow, KnownAreCarried, PartnersAreKnown}
-use Rattle.law_recovery_known.specs.Partners.{IsOpenedEnd}
-use Rattle.law_recovery_known.proofs.Showing.{rest_shows}
+use Rattle.law_recovery_known.proofs.Recovering.{units, windows}
+use Rattle.law_recovery_known.proofs.Showing.{rests_show}
 
 module _ {C : Type 0} (link : C → Link (List ℕ)) (titles : List (List ℕ)) (timers : Timers) (w : Whole) (journal : List Event) (last : World C) (explains : Explains link titles timers w journal last)
     (timed : IsTimed timers) (steady : AreSteady timers.credit (link last.carrier).clock last.entities) (x y : ℕ) (p : Pair) (r : InCrWait) (m : InAkWait) (pair : IsAskingPairOf link journal last x y p r m) where
@@ -89,35 +84,10 @@ askers_open {C} link steps known begin opens titles timers journal first one x y
 
 pub askers_show : {C : Type 0} (link : C → Link (List ℕ)) (steps : C → Call (List ℕ) → C → Type 0) → AskersAreKnown link steps → AsksBegin → PairsOpenRest → PartnersAreKnown link steps → KnownAreCarried
     → CallsTell link steps → AskersShow link steps
-askers_show {C} link steps known begin rest opened carried tell titles timers journal later first second one two x y p last r w calling called happenings pair stands leads idle undue late =
-    elim rests [
-      | inl left ↦ inl left
-      | inr s ↦ inr (
-          let there = stands s.0 s.1 s.2 s.3 in
-          let shown = rest_shows link later second x y last s.0 s.1 there (told x last.calling s.0 there.calling) (told y last.called s.1 there.called) undue s.4 in
-          (s.0, s.1, s.2, s.3, shown.0, shown.1))
-    ]
-  where
-    k : IsKnownToAsk timers p r w
-    k = known titles timers journal first one x y p r w pair
-
-    told : (n : ℕ) (e : End) (i : InOpened) → IsOpenedEnd second n e i → StageTells later n e.stage
-    told n e i c = tell titles timers later second two n c.system c.reference c.entity e c.is_end
-
-    windows : HaveWindow timers.window last
-    windows i j mine theirs =
-        let there = opened titles timers later second two x y last i j (stands i j mine theirs) in
-        (ap (λ (t : Timers). t.window) there.2.calling, ap (λ (t : Timers). t.window) there.2.called)
-
-    units : (i j : InOpened) → last.calling.stage ≡ Opened i → last.called.stage ≡ Opened j
-        → AreCarried i.halves.sending j.halves.receiving (forth_units last) × AreCarried j.halves.sending i.halves.receiving (back_units last)
-    units i j mine theirs =
-        let there = (opened titles timers later second two x y last i j (stands i j mine theirs)).0 in (
-          carried timers.life last.clock i.halves.sending j.halves.receiving (forth_units last) there.there,
-          carried timers.life last.clock j.halves.sending i.halves.receiving (back_units last) there.here,
-        )
-
-    rests : IsParted last ⊎ ((i j : InOpened) × (last.calling.stage ≡ Opened i) × (last.called.stage ≡ Opened j) × AreAtRest last i j)
-    rests = rest timers.life (most_of k.options.format) timers.t1 timers.window p (as_confirmed p.calling.base p.called.base k.options) w calling called happenings last
-        (begin timers.life p r w k.options k.asking) (ap (λ (t : Timers). t.t1) k.called) (ap (λ (t : Timers). t.t1) k.calling)
-        (ap (λ (h : Halves). h.sending.rules.t1) k.asking.halves ∙ ap (λ (t : Timers). t.t1) k.called) windows leads idle undue late units
+askers_show link steps known begin rest opened carried tell titles timers journal later first second one two x y p last r w calling called happenings pair stands leads idle undue late =
+    let k = known titles timers journal first one x y p r w pair in
+    rests_show link steps tell titles timers later second two x y last stands undue
+    (rest timers.life (most_of k.options.format) timers.t1 timers.window p (as_confirmed p.calling.base p.called.base k.options) w calling called happenings last
+    (begin timers.life p r w k.options k.asking) (ap (λ (t : Timers). t.t1) k.called) (ap (λ (t : Timers). t.t1) k.calling)
+    (ap (λ (h : Halves). h.sending.rules.t1) k.asking.halves ∙ ap (λ (t : Timers). t.t1) k.called) (windows link steps opened titles timers later second two x y last stands) leads idle undue late
+    (units link steps opened titles timers later second two x y last stands carried))

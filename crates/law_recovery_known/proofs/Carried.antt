@@ -1,7 +1,7 @@
 -- What is known of a direction has what is known of its units.
 use Rattle.std.proofs.Common.{Option, ◌∙◌, subst, ℕ}
-use Rattle.tp4_flow.specs.Half.{Half}
-use Rattle.tp4_sending.specs.FlowSender.{FlowSender}
+use Rattle.tp4_flow.specs.ReceivingHalf.{Half}
+use Rattle.tp4_sending.specs.SendingHalf.{FlowSender}
 use Rattle.tp4_sending.specs.Kept.{urgent_base}
 use Rattle.tp4_sending.specs.declared.tries.Tries.{Tries}
 use Rattle.law_tp4_pair.specs.Pair.{Account}

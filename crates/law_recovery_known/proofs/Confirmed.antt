@@ -1,6 +1,6 @@
 -- Two partners of which the calling one is Opened and the called one in AkWait. What the calling one knows is what the CC said: nothing that it knows is newer than what the
 -- called one says now, which is what that began with, and nothing older.
-use Rattle.std.proofs.Common.{◌≡◌, ◌⊎◌, ◌≤◌, inl, inr, ℕ, List, refl, sym, ◌∙◌, ap, subst, arith}
+use Rattle.std.proofs.Common.{◌≡◌, ◌≤◌, inl, inr, ℕ, List, refl, sym, ◌∙◌, ap, subst, arith}
 use Rattle.osi_base.specs.Calls.{Call}
 use Rattle.osi_base.specs.Link.{Link}
 use Rattle.tp4_number.specs.Formats.{most_of}
@@ -9,23 +9,21 @@ use Rattle.tpdu.specs.declared.tpdu.Format.{Format}
 use Rattle.law_tp4_recovery.specs.Views.{IsNoOlder, View, known, said}
 use Rattle.law_tp4_recovery.proofs.Older.{older_both}
 use Rattle.tp4_flow.specs.declared.rules.FlowRules.{FlowRules}
-use Rattle.tp4_conn.specs.End.{End, IsSized}
+use Rattle.tp4_conn.specs.End.{IsSized}
 use Rattle.tp4_conn.specs.Proper.{AreOpen, HasSize, IsProperStage}
 use Rattle.tp4_conn.specs.declared.halves.Halves.{Halves}
 use Rattle.tp4_conn.specs.declared.states.InAkWait.{InAkWait}
 use Rattle.tp4_conn.specs.declared.states.InOpened.{InOpened}
-use Rattle.tp4_conn.specs.declared.states.StateData.TheVariants.{AkWait, Opened}
+use Rattle.tp4_conn.specs.declared.states.StateData.TheVariants.{AkWait}
 use Rattle.tp4_conn.specs.declared.timers.Timers.{Timers}
-use Rattle.script_journal.specs.Lawful.{ArePartners, shown, submitted}
+use Rattle.script_journal.specs.Lawful.{shown, submitted}
+use Rattle.script_journal.specs.Partner.{ArePartners}
 use Rattle.script_journal.specs.declared.event.Event.{Event}
 use Rattle.law_tp4_history.specs.Tracks.{Whole}
 use Rattle.law_tp4_moves.specs.Moves.{AreOwn}
-use Rattle.law_tp4_pair.specs.Pair.{Pair, back_units, forth_units}
-use Rattle.law_tp4_pair.specs.steps.Rest.{AreAtRest}
+use Rattle.law_tp4_pair.specs.Pair.{Pair}
 use Rattle.law_recovery_ends.specs.Knowing.{StageKnows}
-use Rattle.law_recovery_steps.specs.Resting.{AreBegun, HaveWindow, IsBegun}
-use Rattle.law_recovery_steps.specs.Showing.{AreCarried}
-use Rattle.law_recovery_steps.specs.Steps.{IsParted}
+use Rattle.law_recovery_steps.specs.Resting.{AreBegun, IsBegun}
 use Rattle.law_recovery_steps.proofs.Beginning.{direction_begins}
 use Rattle.law_recovery_opening.specs.Laws.{PairsOpen, PairsOpenRest}
 use Rattle.law_recovery_opening.specs.Opening.{IsQueued, KnowsCc, Talks, as_if, as_opened, unsent}
@@ -35,13 +33,13 @@ use Rattle.law_tp4_lawful.specs.References.{halves_at}
 use Rattle.law_tp4_lawful.proofs.Worlds.{Explains}
 use Rattle.law_recovery_world.specs.Laws.{CallsTell}
 use Rattle.law_recovery_world.specs.Lines.{HasViews}
-use Rattle.law_recovery_world.specs.Steady.{AreLate, AreSteady, IsSteady, StageLate, StageMade, StageRises, StageTells, knows_of, says_of}
+use Rattle.law_recovery_world.specs.Steady.{AreLate, AreSteady, IsSteady, StageLate, StageMade, StageRises, knows_of, says_of}
 use Rattle.law_recovery_known.specs.Confirmed.{IsConfirmedPairOf, IsKnownConfirmed}
 use Rattle.law_recovery_known.specs.Laws.{ConfirmedAreKnown, ConfirmedOpen, ConfirmedShow, KnownAreCarried, PartnersAreKnown}
-use Rattle.law_recovery_known.specs.Partners.{IsOpenedEnd}
 use Rattle.law_recovery_known.proofs.Directions.{far, format_same, full, here, known_direction, opened_is, sum_same, there, there_far, unsent_begins}
 use Rattle.law_recovery_known.proofs.Partners.{works_as}
-use Rattle.law_recovery_known.proofs.Showing.{rest_shows}
+use Rattle.law_recovery_known.proofs.Recovering.{units, windows}
+use Rattle.law_recovery_known.proofs.Showing.{rests_show}
 
 module _ {C : Type 0} (link : C → Link (List ℕ)) (titles : List (List ℕ)) (timers : Timers) (w : Whole) (journal : List Event) (last : World C) (explains : Explains link titles timers w journal last)
     (views : (x y : ℕ) (theirs halves : Halves) → ArePartners journal x y → IsOpenEnd last x theirs → IsOpenEnd last y halves → HasViews w y halves theirs)
@@ -192,34 +190,8 @@ confirmed_open {C} link steps known opens titles timers journal first one x y p 
 
 pub confirmed_show : {C : Type 0} (link : C → Link (List ℕ)) (steps : C → Call (List ℕ) → C → Type 0) → ConfirmedAreKnown link steps → PairsOpenRest → PartnersAreKnown link steps → KnownAreCarried
     → CallsTell link steps → ConfirmedShow link steps
-confirmed_show {C} link steps known rest opened carried tell titles timers journal later first second one two x y p last o w calling called happenings pair stands leads idle undue late =
-    elim rests [
-      | inl left ↦ inl left
-      | inr s ↦ inr (
-          let there = stands s.0 s.1 s.2 s.3 in
-          let shown = rest_shows link later second x y last s.0 s.1 there (told x last.calling s.0 there.calling) (told y last.called s.1 there.called) undue s.4 in
-          (s.0, s.1, s.2, s.3, shown.0, shown.1))
-    ]
-  where
-    k : IsKnownConfirmed timers p o w
-    k = known titles timers journal first one x y p o w pair
-
-    told : (n : ℕ) (e : End) (i : InOpened) → IsOpenedEnd second n e i → StageTells later n e.stage
-    told n e i c = tell titles timers later second two n c.system c.reference c.entity e c.is_end
-
-    windows : HaveWindow timers.window last
-    windows i j mine theirs =
-        let there = opened titles timers later second two x y last i j (stands i j mine theirs) in
-        (ap (λ (t : Timers). t.window) there.2.calling, ap (λ (t : Timers). t.window) there.2.called)
-
-    units : (i j : InOpened) → last.calling.stage ≡ Opened i → last.called.stage ≡ Opened j
-        → AreCarried i.halves.sending j.halves.receiving (forth_units last) × AreCarried j.halves.sending i.halves.receiving (back_units last)
-    units i j mine theirs =
-        let there = (opened titles timers later second two x y last i j (stands i j mine theirs)).0 in (
-          carried timers.life last.clock i.halves.sending j.halves.receiving (forth_units last) there.there,
-          carried timers.life last.clock j.halves.sending i.halves.receiving (back_units last) there.here,
-        )
-
-    rests : IsParted last ⊎ ((i j : InOpened) × (last.calling.stage ≡ Opened i) × (last.called.stage ≡ Opened j) × AreAtRest last i j)
-    rests = rest timers.life (most_of w.halves.sending.rules.format) timers.t1 timers.window p o w calling called happenings last k.begun (ap (λ (t : Timers). t.t1) k.called) k.calling_t1 k.called_t1 windows
-        leads idle undue late units
+confirmed_show link steps known rest opened carried tell titles timers journal later first second one two x y p last o w calling called happenings pair stands leads idle undue late =
+    let k = known titles timers journal first one x y p o w pair in
+    rests_show link steps tell titles timers later second two x y last stands undue
+    (rest timers.life (most_of w.halves.sending.rules.format) timers.t1 timers.window p o w calling called happenings last k.begun (ap (λ (t : Timers). t.t1) k.called) k.calling_t1 k.called_t1
+    (windows link steps opened titles timers later second two x y last stands) leads idle undue late (units link steps opened titles timers later second two x y last stands carried))

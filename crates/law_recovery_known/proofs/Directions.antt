@@ -14,10 +14,10 @@ use Rattle.tp4_number.specs.Sender.{Sender}
 use Rattle.tp4_number.specs.Traffic.{IsFit, Leads, Rules, Traffic, start}
 use Rattle.tp4_number.proofs.Sound.{Sound}
 use Rattle.law_tp4_recovery.specs.Views.{AreViews}
-use Rattle.tp4_flow.specs.Half.{Half}
+use Rattle.tp4_flow.specs.ReceivingHalf.{Half}
 use Rattle.tp4_flow.specs.declared.rules.FlowRules.{FlowRules}
 use Rattle.tpdu.specs.declared.service.Options.{Options}
-use Rattle.tp4_sending.specs.FlowSender.{FlowSender, fresh}
+use Rattle.tp4_sending.specs.SendingHalf.{FlowSender, fresh}
 use Rattle.tp4_sending.proofs.Settles.{new_settled}
 use Rattle.tp4_sending.specs.Kept.{urgent_base}
 use Rattle.tp4_sending.specs.Pieces.{count_in, cut_at}
@@ -28,7 +28,8 @@ use Rattle.tp4_conn.specs.declared.states.InOpened.{InOpened}
 use Rattle.tp4_conn.specs.declared.timers.Timers.{Timers}
 use Rattle.tp4_conn.specs.End.{End}
 use Rattle.tp4_conn.specs.Proper.{AreOpen}
-use Rattle.script_journal.specs.Lawful.{ArePartners, expediteds, normals, shown, submitted}
+use Rattle.script_journal.specs.Lawful.{expediteds, normals, shown, submitted}
+use Rattle.script_journal.specs.Partner.{ArePartners}
 use Rattle.script_journal.specs.declared.event.Event.{Event}
 use Rattle.law_tp4_history.specs.Ends.{Terms}
 use Rattle.law_tp4_history.specs.History.{IsPartner}
@@ -44,6 +45,7 @@ use Rattle.law_tp4_moves.specs.Moves.{times_of}
 use Rattle.law_tp4_moves.specs.Seen.{terms_of}
 use Rattle.law_tp4_pair.specs.Pair.{Account}
 use Rattle.law_tp4_pair.specs.steps.Flowing.{HasUnit}
+use Rattle.law_recovery_ends.specs.Resting.{WasReached}
 use Rattle.law_recovery_steps.specs.Beginning.{IsFull}
 use Rattle.law_recovery_steps.specs.Known.{IsKnownAt}
 use Rattle.law_recovery_steps.specs.Resting.{IsBegun}
@@ -221,6 +223,20 @@ module _ {C : Type 0} (link : C → Link (List ℕ)) (titles : List (List ℕ)) 
         subst (λ (r : Rules). Leads r (start t.tick t.credit t.places t.room) fine.events (road_of now s.numbers h aside).traffic) rules_are
         (subst (λ (v : Traffic). Leads t.rules (start t.tick t.credit t.places t.room) fine.events v) world_is fine.leads)
 
+    abbrev reached : WasReached (rules_by timers.life s.rules) (road_of now s.numbers h aside).traffic
+    reached = record {
+      fit = subst IsFit rules_are run.long;
+      tick = t.tick;
+      credit = t.credit;
+      places = t.places;
+      room = t.room;
+      credit_low = subst (λ (r : Rules). t.credit < r.block) rules_are run.credit_low;
+      room_low = subst (λ (r : Rules). t.room < r.block) rules_are run.room_low;
+      events = fine.events;
+      leads = leads;
+      views = subst AreViews world_is views_here;
+    }
+
     format_there : h.rules.format ≡ s.rules.format
     format_there = ap (λ (r : FlowRules). r.format) there_far.own.receiving ∙ sym (ap (λ (r : FlowRules). r.format) there_far.own.sending) ∙ sym format_same
 
@@ -247,16 +263,7 @@ module _ {C : Type 0} (link : C → Link (List ℕ)) (titles : List (List ℕ)) 
         no_dts = refl;
         no_aks = refl;
         format = format_there;
-        fit = subst IsFit rules_are run.long;
-        tick = t.tick;
-        credit = t.credit;
-        places = t.places;
-        room = t.room;
-        credit_low = subst (λ (r : Rules). t.credit < r.block) rules_are run.credit_low;
-        room_low = subst (λ (r : Rules). t.room < r.block) rules_are run.room_low;
-        events = fine.events;
-        leads = leads;
-        views = subst AreViews world_is views_here;
+        reached = reached;
         fits = late_far.fits;
         ordered = record {
           is_open = proper.is_open;
@@ -312,16 +319,7 @@ module _ {C : Type 0} (link : C → Link (List ℕ)) (titles : List (List ℕ)) 
         no_dts = refl;
         no_aks = refl;
         past = record {
-          fit = subst IsFit rules_are run.long;
-          tick = t.tick;
-          credit = t.credit;
-          places = t.places;
-          room = t.room;
-          credit_low = subst (λ (r : Rules). t.credit < r.block) rules_are run.credit_low;
-          room_low = subst (λ (r : Rules). t.room < r.block) rules_are run.room_low;
-          events = fine.events;
-          leads = subst (λ (n : Sender). Leads (rules_by timers.life s.rules) (start t.tick t.credit t.places t.room) fine.events (road_of now n h aside).traffic) numbers_are leads;
-          views = subst (λ (n : Sender). AreViews (road_of now n h aside).traffic) numbers_are (subst AreViews world_is views_here);
+          reached = subst (λ (n : Sender). WasReached (rules_by timers.life s.rules) (road_of now n h aside).traffic) numbers_are reached;
           fits = record { places = late_far.fits.places ∙ sym most; room = omega (arith, late_far.fits.room, most); free = late_far.fits.free };
         };
         format = format_there;

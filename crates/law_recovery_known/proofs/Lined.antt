@@ -2,7 +2,7 @@
 use Rattle.std.specs.List.{AllByRecursion}
 use Rattle.std.proofs.Common.{◌≡◌, ◌≤◌, ◌+◌, ℕ, List, [], ◌∷◌, ◌++◌, length, refl, sym, ◌∙◌, ap, subst}
 use Rattle.osi_base.specs.Link.{Link}
-use Rattle.tp4_sending.specs.FlowSender.{UrgentSender, no_urgent}
+use Rattle.tp4_sending.specs.SendingHalf.{UrgentSender, no_urgent}
 use Rattle.tp4_sending.specs.Kept.{urgent_base}
 use Rattle.tp4_conn.specs.declared.states.InOpened.{InOpened}
 use Rattle.tp4_conn.specs.declared.states.StateData.{StateData}
@@ -33,11 +33,11 @@ use Rattle.law_recovery_world.specs.Steady.{AreShort, AreSteady, StageUrges}
 use Rattle.law_recovery_known.specs.Partners.{IsOpenedEnd, IsPairOf}
 use Rattle.law_recovery_known.proofs.Directions.{far, here, opened_is, partner, terms_same, there, there_far}
 
-all_short : (units : List (List ℕ)) → AllByRecursion (λ (unit : List ℕ). length unit ≤ 16384) units → AllShort units
+pub all_short : (units : List (List ℕ)) → AllByRecursion (λ (unit : List ℕ). length unit ≤ 16384) units → AllShort units
 all_short [] s = tt
 all_short (unit ∷ units) s = (s.0, all_short units s.1)
 
-none_of : (units : List (List ℕ)) → length units ≡ 0 → units ≡ []
+pub none_of : (units : List (List ℕ)) → length units ≡ 0 → units ≡ []
 none_of [] e = refl
 none_of (unit ∷ units) e = absurd (cc e)
 

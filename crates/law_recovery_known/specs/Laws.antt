@@ -3,8 +3,8 @@ use Rattle.std.specs.Prelude.{◌≡◌, ◌⊎◌, ◌<◌, ◌≤◌, ◌+◌,
 use Rattle.osi_base.specs.Calls.{Call}
 use Rattle.osi_base.specs.Link.{Link}
 use Rattle.tp4_number.specs.Number.{whole}
-use Rattle.tp4_flow.specs.Half.{Half}
-use Rattle.tp4_sending.specs.FlowSender.{FlowSender}
+use Rattle.tp4_flow.specs.ReceivingHalf.{Half}
+use Rattle.tp4_sending.specs.SendingHalf.{FlowSender}
 use Rattle.tp4_conn.specs.declared.states.InAkWait.{InAkWait}
 use Rattle.tp4_conn.specs.declared.states.InCrWait.{InCrWait}
 use Rattle.tp4_conn.specs.declared.states.InOpened.{InOpened}

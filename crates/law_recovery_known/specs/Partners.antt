@@ -6,7 +6,8 @@ use Rattle.tp4_conn.specs.declared.states.InOpened.{InOpened}
 use Rattle.tp4_conn.specs.declared.states.StateData.TheVariants.{Opened}
 use Rattle.tp4_conn.specs.declared.timers.Timers.{Timers}
 use Rattle.tp4_entity.specs.Entity.{Entity}
-use Rattle.script_journal.specs.Lawful.{ArePartners, shown, submitted}
+use Rattle.script_journal.specs.Lawful.{shown, submitted}
+use Rattle.script_journal.specs.Partner.{ArePartners}
 use Rattle.script_journal.specs.declared.event.Event.{Event}
 use Rattle.law_tp4_pair.specs.Pair.{Comes_back, Comes_forth, Happening, IsIdle, Pair}
 use Rattle.law_recovery_steps.specs.Beginning.{AreAgreed}

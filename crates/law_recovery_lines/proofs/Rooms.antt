@@ -1,6 +1,6 @@
 -- The receiver of a line that begins has the room with which the line begins.
 use Rattle.std.proofs.Common.{◌≡◌, ℕ, List, sym, ◌∙◌, ap}
-use Rattle.tp4_flow.specs.Half.{Half}
+use Rattle.tp4_flow.specs.ReceivingHalf.{Half}
 use Rattle.tpdu.specs.declared.service.Options.{Options}
 use Rattle.tp4_number.specs.Receiver.{Inbox}
 use Rattle.tp4_conn.specs.declared.end_record.EndRecord.{EndRecord}

@@ -1,15 +1,14 @@
 -- An end in CrWait and one in AkWait: nothing was sent between them but CRs and CCs, so all is known that such a pair begins with.
-use Rattle.std.proofs.Common.{◌≡◌, inl, ℕ, ◌+◌, ◌*◌, ◌<◌, ◌≤◌, true, [], refl, sym, ◌∙◌, ap, subst, arith, Contains}
+use Rattle.std.proofs.Common.{◌≡◌, inl, ℕ, ◌+◌, ◌*◌, ◌<◌, ◌≤◌, true, [], refl, sym, ◌∙◌, ap, subst, arith}
 use Rattle.tpdu.specs.declared.tpdu.Format.{Format}
 use Rattle.tpdu.specs.declared.tpdu.Format.TheVariants.{Normal, Extended}
 use Rattle.tp4_number.specs.Formats.{block_of, most_of}
 use Rattle.tp4_number.specs.Expedited.{quiet}
-use Rattle.tp4_number.specs.Traffic.{Answer}
 use Rattle.law_tp4_recovery.specs.Views.{Wider}
-use Rattle.tp4_flow.specs.Half.{empty}
+use Rattle.tp4_flow.specs.ReceivingHalf.{empty}
 use Rattle.tp4_flow.specs.declared.rules.FlowRules.{FlowRules}
 use Rattle.tpdu.specs.declared.service.Options.{Options}
-use Rattle.tp4_sending.specs.FlowSender.{FlowSender, fresh}
+use Rattle.tp4_sending.specs.SendingHalf.{FlowSender, fresh}
 use Rattle.tp4_sending.proofs.Settles.{new_settled}
 use Rattle.law_recovery_pair.specs.Fitting.{Fits}
 use Rattle.law_recovery_pair.specs.Riding.{Aside}
@@ -22,14 +21,12 @@ use Rattle.tp4_conn.specs.declared.states.StateData.TheVariants.{AkWait}
 use Rattle.tp4_conn.specs.Agreeing.{flow_rules}
 use Rattle.law_recovery_steps.specs.Resting.{IsBegun}
 use Rattle.law_tp4_pair.specs.Pair.{Pair}
+use Rattle.law_recovery_steps.proofs.Sending.{none_in}
 use Rattle.law_recovery_opening.specs.Opening.{AreAsking, Asks, IsBegunSo, as_confirmed, confirmed_by, queued}
 
 low_block : (format : Format) → 15 < block_of format
 low_block Normal = omega arith
 low_block Extended = omega arith
-
-none_in : (a : Answer) → Contains [] a → ⊥
-none_in a c = omega (arith, c.1)
 
 abbrev none_aside : Aside
 none_aside = record { urgent = 0; sends = []; answers = []; dts = []; aks = [] }
@@ -47,16 +44,18 @@ fresh_begins life now rules other credit acked format long low spoke =
       no_dts = refl;
       no_aks = refl;
       past = record {
-        fit = record { some = omega (arith, block); long = long };
-        tick = now;
-        credit = credit;
-        places = most_of other.format;
-        room = credit;
-        credit_low = omega (arith, block, low);
-        room_low = omega (arith, block, low);
-        events = [];
-        leads = refl;
-        views = record { knows = Wider refl refl (omega arith); answered = λ a c. absurd (none_in a c); rising = λ a b c d later. absurd (none_in a c); edge = omega arith };
+        reached = record {
+          fit = record { some = omega (arith, block); long = long };
+          tick = now;
+          credit = credit;
+          places = most_of other.format;
+          room = credit;
+          credit_low = omega (arith, block, low);
+          room_low = omega (arith, block, low);
+          events = [];
+          leads = refl;
+          views = record { knows = Wider refl refl (omega arith); answered = λ a c. absurd (none_in a c); rising = λ a b c d later. absurd (none_in a c); edge = omega arith };
+        };
         fits = record { places = fits.places ∙ sym most; room = omega (arith, fits.room, most); free = fits.free };
       };
       format = format;

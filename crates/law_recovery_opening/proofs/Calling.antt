@@ -4,14 +4,14 @@ use Rattle.tpdu.specs.declared.tpdu.Tpdu.{Tpdu}
 use Rattle.tpdu.specs.declared.tpdu.Tpdu.TheVariants.{Cc, Cr}
 use Rattle.tp4_number.specs.Number.{whole}
 use Rattle.tp4_number.proofs.Past.{if_kept}
-use Rattle.tp4_flow.specs.Half.{Half, ak, half_granted}
+use Rattle.tp4_flow.specs.ReceivingHalf.{Half, ak, half_granted}
 use Rattle.tp4_flow.specs.declared.rules.FlowRules.{FlowRules}
 use Rattle.tp4_flow.specs.declared.rules.Life.{Life}
 use Rattle.tp4_flow.specs.declared.rules.Life.TheVariants.{Goes, Exhausted}
 use Rattle.tpdu.specs.declared.service.Options.{Options}
 use Rattle.tpdu.specs.declared.service.GoneCause.TheVariants.{Protocol}
 use Rattle.tp4_flow.specs.declared.step.Sent.{Sent}
-use Rattle.tp4_sending.specs.FlowSender.{FlowSender, Sendings, at, life_of, ticked}
+use Rattle.tp4_sending.specs.SendingHalf.{FlowSender, Sendings, at, life_of, ticked}
 use Rattle.law_recovery_pair.specs.Viewing.{IsWithin, KeepsView}
 use Rattle.law_recovery_pair.proofs.Viewing.{submit_keep, tick_keep, urge_keep}
 use Rattle.tp4_conn.specs.declared.call.UserCall.{UserCall}

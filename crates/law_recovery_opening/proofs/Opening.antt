@@ -1,10 +1,9 @@
 -- The called end takes the first AK, DT, ED or EA: what the calling end knows of it is what it says, as if it had just said so; it sends what is queued; and then takes the
 -- TPDU as an Opened end does.
-use Rattle.std.proofs.Common.{◌≡◌, inl, inr, ℕ, ◌<◌, nat_le, Bool, true, if◌then◌else◌, List, [], ◌∷◌, ◌++◌, refl, sym, ◌∙◌, ap, subst, arith, append-nil}
+use Rattle.std.proofs.Common.{◌≡◌, inl, inr, ℕ, nat_le, Bool, true, if◌then◌else◌, List, [], ◌∷◌, ◌++◌, refl, sym, ◌∙◌, ap, subst, arith, append-nil}
 use Rattle.std.proofs.lemmas.Bool.{and_parts}
 use Rattle.std.proofs.lemmas.Bool.Decides.{nat_tests}
 use Rattle.tpdu.specs.declared.tpdu.Format.{Format}
-use Rattle.tpdu.specs.declared.tpdu.Format.TheVariants.{Normal, Extended}
 use Rattle.tpdu.specs.declared.tpdu.Tpdu.{Tpdu}
 use Rattle.tpdu.specs.declared.tpdu.Tpdu.TheVariants.{Dt, Ed, Ak, Ea}
 use Rattle.tp4_number.specs.Formats.{block_of}
@@ -14,10 +13,10 @@ use Rattle.tp4_number.proofs.Numbers.{near_is}
 use Rattle.tp4_number.proofs.Past.{if_kept}
 use Rattle.law_tp4_recovery.specs.Recovering.{Road}
 use Rattle.law_tp4_recovery.specs.Urgent.{UrgentRoad}
-use Rattle.tp4_flow.specs.Half.{Half, block_in as block_there}
+use Rattle.tp4_flow.specs.ReceivingHalf.{Half, block_in as block_there}
 use Rattle.tp4_flow.specs.declared.rules.FlowRules.{FlowRules}
 use Rattle.tp4_flow.specs.declared.step.Sent.{Sent}
-use Rattle.tp4_sending.specs.FlowSender.{FlowSender, Sendings, acknowledged, at, block_in, is_taken, nothing, opened}
+use Rattle.tp4_sending.specs.SendingHalf.{FlowSender, Sendings, acknowledged, at, block_in, is_taken, nothing, opened}
 use Rattle.tp4_sending.proofs.Settles.{new_settled}
 use Rattle.law_recovery_pair.specs.Riding.{Aside}
 use Rattle.tp4_conn.specs.declared.end_record.EndRecord.{EndRecord}
@@ -33,19 +32,16 @@ use Rattle.law_tp4_pair.specs.steps.Waiting.{AreData, View, aks_in, dts_in, eas_
 use Rattle.law_tp4_pair.proofs.Handing.{has_sum}
 use Rattle.law_recovery_steps.specs.Directions.{Rides, RidesOn}
 use Rattle.law_recovery_steps.specs.Sending.{GoesOut, IsFed}
+use Rattle.law_tp4_pair.proofs.Taking.{some_block}
 use Rattle.law_recovery_steps.specs.Steps.{AreRiding, RidesOnward, Since}
 use Rattle.law_recovery_steps.specs.Urging.{Urges}
-use Rattle.law_recovery_steps.proofs.Directions.{aks_ride, repeats_ride, sends_on}
+use Rattle.law_recovery_steps.proofs.Directions.{aks_ride, clock_ride, repeats_ride, sends_on}
 use Rattle.law_recovery_steps.proofs.Sending.{calls_out}
 use Rattle.law_recovery_steps.proofs.Steps.{takes_onward}
 use Rattle.law_recovery_steps.proofs.Urging.{calls_urge}
 use Rattle.law_recovery_opening.specs.Opening.{IsQueued, KnowsCc, as_opened, queued, unsent}
 
 -- ---- as if it had said so
-
-some_block : (format : Format) → 0 < block_of format
-some_block Normal = omega arith
-some_block Extended = omega arith
 
 -- an AK that says what is known is not taken
 never_newer : (x : Sender) (n credit subsequence : ℕ) → n ≡ x.base → credit ≡ x.credit → subsequence ≡ x.subsequence → is_newer x n credit subsequence ≡ true → ⊥
@@ -59,24 +55,6 @@ known_is s w credit subsequence at_base a b =
     (λ _. refl)
 
 module _ (life size u : ℕ) (old : Road) (s : FlowSender) (h : Half) where
-  -- the clock of a half is no part of it
-  any_clock : (now : ℕ) (dts : List ℕ) (aks : List View) (acked : ℕ) → Rides life size u now old (at now s) h dts aks acked → Rides life size u now old s h dts aks acked
-  any_clock now dts aks acked r = record {
-    aside = r.aside;
-    goes = r.goes;
-    format = r.format;
-    places = r.places;
-    fits = r.fits;
-    fed = record { is_open = r.fed.is_open; first = r.fed.first; window = r.fed.window; high = r.fed.high; reach = r.fed.reach };
-    settled = record { urgent = r.settled.urgent; normal = r.settled.normal };
-    tried = r.tried;
-    dts_are = r.dts_are;
-    aks_are = r.aks_are;
-    dts_now = r.dts_now;
-    aks_now = r.aks_now;
-    spoke = r.spoke;
-  }
-
   spoken : (now : ℕ) (dts : List ℕ) (acked : ℕ) → s.numbers.base ≡ h.receiver.expected → s.numbers.credit ≡ h.receiver.inbox.credit → s.numbers.subsequence ≡ h.receiver.inbox.subsequence
       → Rides life size u now old s h dts [] acked → Rides life size u now old s h dts [] now
   spoken now dts acked number credit subsequence r =
@@ -86,7 +64,7 @@ module _ (life size u : ℕ) (old : Road) (s : FlowSender) (h : Half) where
       ap (λ (f : Format). near (block_in s) s.numbers.base (wire (block_of f) h.receiver.expected)) r.format ∙ ap (λ (n : ℕ). near (block_in s) s.numbers.base (wire (block_in s) n)) (sym number)
       ∙ near_is (block_in s) s.numbers.base s.numbers.base some (omega arith) (omega (arith, some)) in
       let z = aks_ride life size u old s h now dts says [] now (repeats_ride life size u old s h now dts [] acked r) in
-      any_clock now dts [] now (subst (λ (l : List ℕ). Rides life size u now old (at now s) h l [] now) (append-nil dts)
+      clock_ride life size u old (at now s) h now s.clock dts [] now (subst (λ (l : List ℕ). Rides life size u now old (at now s) h l [] now) (append-nil dts)
       (subst (λ (x : Sendings). Rides life size u now old x.sender h (dts ++ dts_in x.tpdus) [] now) (known_is (at now s) says.number says.credit says.subsequence read (sym credit) (sym subsequence)) z.ride))
 
 -- ---- what is queued goes

@@ -3,7 +3,7 @@ use Rattle.std.proofs.Common.{◌≡◌, ◌⊎◌, inl, inr, ℕ, ◌+◌, ◌<
 use Rattle.tp4_number.specs.Number.{whole}
 use Rattle.tpdu.specs.declared.service.Options.{Options}
 use Rattle.tp4_flow.specs.declared.step.Sent.{Sent}
-use Rattle.tp4_flow.specs.Half.{ak}
+use Rattle.tp4_flow.specs.ReceivingHalf.{ak}
 use Rattle.tp4_sending.specs.declared.tries.Tries.{Tries}
 use Rattle.tp4_conn.specs.declared.call.UserCall.{UserCall}
 use Rattle.tp4_conn.specs.declared.end_record.EndRecord.{EndRecord}

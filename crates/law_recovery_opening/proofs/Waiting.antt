@@ -2,11 +2,10 @@
 use Rattle.std.proofs.Common.{◌≡◌, ◌⊎◌, inl, inr, ℕ, ◌+◌, ◌<◌, nat_lt, Bool, true, false, List, [], ◌∷◌, ◌++◌, length, Option, Some, refl, sym, ◌∙◌, ap, subst, arith, append-nil}
 use Rattle.tp4_number.specs.Number.{whole}
 use Rattle.tp4_number.proofs.Past.{if_kept}
-use Rattle.law_tp4_recovery.specs.Recovering.{Road}
-use Rattle.tp4_flow.specs.Half.{Half, ak}
+use Rattle.tp4_flow.specs.ReceivingHalf.{Half, ak}
 use Rattle.tpdu.specs.declared.service.Options.{Options}
 use Rattle.tp4_flow.specs.declared.step.Sent.{Sent}
-use Rattle.tp4_sending.specs.FlowSender.{FlowSender, at, submitted, urged}
+use Rattle.tp4_sending.specs.SendingHalf.{FlowSender, at, submitted, urged}
 use Rattle.tp4_sending.specs.Pieces.{again}
 use Rattle.law_recovery_pair.specs.Viewing.{KeepsView}
 use Rattle.tp4_conn.specs.declared.call.UserCall.{UserCall}
@@ -24,9 +23,8 @@ use Rattle.tp4_conn.specs.End.{End, Moved, agreed_sum, end_of}
 use Rattle.tp4_conn.specs.Table.{Called, at as now_at, on_call, on_tick, stepped, takes}
 use Rattle.law_tp4_pair.specs.Pair.{tick_of}
 use Rattle.law_tp4_pair.specs.steps.Standing.{HasLeft, Party, party}
-use Rattle.law_tp4_pair.specs.steps.Waiting.{View}
-use Rattle.law_recovery_steps.specs.Directions.{Rides}
 use Rattle.law_recovery_steps.specs.Steps.{AreRiding, Since, StaysOpen}
+use Rattle.law_recovery_steps.proofs.Directions.{clock_ride}
 use Rattle.law_recovery_steps.proofs.Pairs.{clock_riding, turned}
 use Rattle.law_recovery_steps.proofs.Steps.{calls_onward, ticks_onward}
 use Rattle.law_recovery_opening.specs.Opening.{Asks, Calls, IsQueued, KnowsCc, Talks, as_confirmed, as_opened, confirmed_by, queued, unsent}
@@ -38,24 +36,6 @@ use Rattle.law_recovery_opening.proofs.Calling.{Answers, KeepsOpen, calls_keep, 
 -- the calling end knows the same
 knows_on : (o after : InOpened) (w : InAkWait) → KeepsView o.halves.sending after.halves.sending → KnowsCc o w → KnowsCc after w
 knows_on o after w k x = record { number = k.base ∙ x.number; credit = k.credit ∙ x.credit; subsequence = k.subsequence ∙ x.subsequence; edge = k.edge }
-
--- the clock of a sending half is no part of a direction
-clock_ride : (life size u now k : ℕ) (old : Road) (s : FlowSender) (h : Half) (dts : List ℕ) (aks : List View) (acked : ℕ) → Rides life size u now old s h dts aks acked → Rides life size u now old (at k s) h dts aks acked
-clock_ride life size u now k old s h dts aks acked r = record {
-  aside = r.aside;
-  goes = r.goes;
-  format = r.format;
-  places = r.places;
-  fits = r.fits;
-  fed = record { is_open = r.fed.is_open; first = r.fed.first; window = r.fed.window; high = r.fed.high; reach = r.fed.reach };
-  settled = record { urgent = r.settled.urgent; normal = r.settled.normal };
-  tried = r.tried;
-  dts_are = r.dts_are;
-  aks_are = r.aks_are;
-  dts_now = r.dts_now;
-  aks_now = r.aks_now;
-  spoke = r.spoke;
-}
 
 clock_both : (life size u now k : ℕ) (one other : Since) (first second : Party) (o q : InOpened) (forth back : List Sent) → AreRiding life size u now one other first second o q forth back
     → AreRiding life size u now one other first second (record o { halves = record o.halves { sending = at k o.halves.sending } }) q forth back
@@ -75,7 +55,7 @@ clock_both life size u now k one other first second o q forth back b = record {
   sum = b.sum;
   forth_are = b.forth_are;
   back_are = b.back_are;
-  there = clock_ride life size u now k one.road o.halves.sending q.halves.receiving _ _ q.acked b.there;
+  there = clock_ride life size u one.road o.halves.sending q.halves.receiving now k _ _ q.acked b.there;
   here = b.here;
   there_eds = record {
     aside = b.there_eds.aside;

@@ -1,10 +1,10 @@
 -- Two ends of which the called one is in AkWait, at a tick at which nothing waits, whatever was lost before: as if both were Opened, and the called one had sent and said
 -- nothing yet (X.224, class 4: connection establishment).
 use Rattle.std.specs.Prelude.{◌≡◌, ℕ, ◌≤◌, true, List, [], Some}
-use Rattle.tp4_flow.specs.Half.{empty}
+use Rattle.tp4_flow.specs.ReceivingHalf.{empty}
 use Rattle.tp4_flow.specs.declared.rules.FlowRules.{FlowRules}
 use Rattle.tpdu.specs.declared.service.Options.{Options}
-use Rattle.tp4_sending.specs.FlowSender.{FlowSender, fresh, no_urgent}
+use Rattle.tp4_sending.specs.SendingHalf.{FlowSender, fresh, no_urgent}
 use Rattle.tp4_conn.specs.declared.end_record.EndRecord.{EndRecord}
 use Rattle.tp4_conn.specs.declared.states.InAkWait.{InAkWait}
 use Rattle.tp4_conn.specs.declared.states.InCrWait.{InCrWait}

@@ -5,11 +5,11 @@ use Rattle.std.proofs.lemmas.Option.{none-some}
 use Rattle.osi_base.specs.Calls.{Call}
 use Rattle.osi_base.specs.Link.{Link, IsLeastFresh}
 use Rattle.osi_base.specs.declared.unit.Unit.{Unit as CarriedUnit}
-use Rattle.script_journal.specs.Lawful.{AreEnds}
+use Rattle.script_journal.specs.Partner.{AreEnds}
 use Rattle.script_journal.specs.declared.event.Event.{Event}
 use Rattle.script_lines.specs.declared.line.Line.{Line}
 use Rattle.tp4_number.specs.Number.{whole}
-use Rattle.tp4_sending.specs.FlowSender.{FlowSender}
+use Rattle.tp4_sending.specs.SendingHalf.{FlowSender}
 use Rattle.tp4_sending.specs.declared.tries.Tries.{Tries}
 use Rattle.tp4_conn.specs.End.{End}
 use Rattle.tp4_conn.specs.Living.{IsInTime}
@@ -46,12 +46,12 @@ use Rattle.law_recovery_known.specs.Partners.{AreTimed, IsOpenedEnd}
 use Rattle.law_recovery_run.specs.Ordered.{HasGone, RunsInOrder}
 use Rattle.law_recovery_ready.specs.Laws.{EndsHaveNumbers, LinesAreCalls, RunsAreReady}
 use Rattle.law_recovery_ready.specs.Ready.{HasStarted, pair_at}
+use Rattle.law_recovery_ready.proofs.Beginning.{settled_none, start_called}
 use Rattle.law_recovery_tries.specs.Since.{IsUpToDate}
 use Rattle.law_recovery_outage.specs.Laws.{CalmAreUpToDate}
 use Rattle.law_recovery_outage.specs.Outage.{AreOrdered}
 use Rattle.law_recovery_outage.proofs.Hearing.{idle_heard}
-use Rattle.law_recovery_outage.proofs.Lines.{settled_none}
-use Rattle.law_recovery_outage.proofs.Starting.{Whatever, begun_aside, is_ready, is_start, start_called}
+use Rattle.law_recovery_outage.proofs.Starting.{Whatever, begun_aside, is_ready, is_start}
 
 -- ---- nothing is outstanding
 
@@ -140,7 +140,7 @@ module _ {C : Type 0} (link : C → Link (List ℕ)) (steps : C → Call (List �
     -- ---- their timers
 
     calls : AreHonestCalls link steps whole titles timers (begun ++ early) at_s
-    calls = lines_of titles timers begun early first at_s front (start_called link steps titles timers begun first s whole) run.proper (settled_none front run.settled) run.runs
+    calls = lines_of titles timers begun early first at_s front (start_called link steps whole titles timers begun first s) run.proper (settled_none front run.settled) run.runs
 
     opened : (number : ℕ) (e : End) (i : InOpened) → end_at_number at_s number ≡ Some e → e.stage ≡ Opened i → IsOpenedEnd at_s number e i
     opened number e i is stage =

@@ -9,7 +9,7 @@ use Rattle.std.proofs.lemmas.List.Elements.{Contains-append_left, Contains-appen
 use Rattle.osi_base.specs.Calls.{Call}
 use Rattle.osi_base.specs.Link.{Link, IsLeastFresh}
 use Rattle.osi_base.specs.declared.unit.Unit.{Unit as CarriedUnit}
-use Rattle.script_journal.specs.Lawful.{AreEnds, ArePartners}
+use Rattle.script_journal.specs.Partner.{AreEnds, ArePartners}
 use Rattle.script_journal.specs.declared.event.Event.{Event}
 use Rattle.script_journal.specs.declared.event.Event.TheVariants as events
 use Rattle.script_lines.specs.Injecting.{IsNoInjection}
@@ -23,7 +23,7 @@ use Rattle.tp4_conn.specs.declared.states.InOpened.{InOpened}
 use Rattle.tp4_conn.specs.declared.states.StateData.TheVariants.{Opened}
 use Rattle.tp4_conn.specs.declared.timers.Timers.{Timers}
 use Rattle.tp4_entity.specs.Entity.{Entity, end_at}
-use Rattle.law_tp4_pair.specs.Calm.{IsSettledScript}
+use Rattle.law_tp4_pair.specs.CalmScript.{IsSettledScript}
 use Rattle.tp4_world.specs.First.{IsFirst}
 use Rattle.tp4_world.specs.Run.{Starts}
 use Rattle.tp4_world.specs.World.{World, end_numbered, entity_at, latest}
@@ -37,10 +37,13 @@ use Rattle.law_calm_run.specs.Run.{HaveEntities, IsUnrouted}
 use Rattle.law_calm_run.specs.Service.{end_at_number, end_placed}
 use Rattle.law_calm_run.proofs.Queueing.{all_parts}
 use Rattle.law_recovery_going.specs.Causes.{IsCause}
-use Rattle.law_recovery_run.specs.Run.{IsKept, RunsOn}
+use Rattle.law_recovery_run.specs.Run.{RunsOn}
+use Rattle.law_recovery_run.specs.Losses.{IsKept}
 use Rattle.law_recovery_run.specs.Ordered.{HasGone, IsReady, RunsInOrder}
 use Rattle.law_recovery_ready.specs.Laws.{EndsHaveNumbers, LinesAreCalls, RunsAreCalls}
 use Rattle.law_recovery_ready.specs.Ready.{HasStarted}
+use Rattle.law_recovery_ready.proofs.Beginning.{start_called}
+use Rattle.law_recovery_ready.proofs.Calls.{HaveCalls, both_called, line_called, lines_called}
 use Rattle.law_recovery_service.specs.Recovered.{AreBack, By_itself, By_user, Goes, Recovered}
 use Rattle.law_recovery_service.specs.Service.{RecoversFrom}
 use Rattle.law_recovery_tries.specs.Since.{IsUpToDate}
@@ -48,8 +51,7 @@ use Rattle.law_recovery_staying.specs.Laws.{PartnersStay}
 use Rattle.law_recovery_staying.specs.Staying.{IsLeftAlone, IsOpenedSince}
 use Rattle.law_recovery_outage.specs.Laws.{CalmAreUpToDate, RecoveringIsKept}
 use Rattle.law_recovery_outage.specs.Outage.{AreKept, AreKeptCalm, AreOrdered, IsShort, RunsThrough}
-use Rattle.law_recovery_outage.proofs.Lines.{HaveCalls, both_called, line_called, lines_called, lines_joined}
-use Rattle.law_recovery_outage.proofs.Starting.{start_called}
+use Rattle.law_recovery_outage.proofs.Lines.{lines_joined}
 
 -- ---- the end of a number, where it was made
 
@@ -145,7 +147,7 @@ module _ {C : Type 0} (link : C → Link (List ℕ)) (steps : C → Call (List �
 
     front_calls : AreHonestCalls link steps whole titles timers (begun ++ early) at_s
     front_calls =
-        lines_of titles timers begun early first at_s run.front (start_called link steps titles timers begun first started whole) (front_parts IsProperLine run.proper).0.0
+        lines_of titles timers begun early first at_s run.front (start_called link steps whole titles timers begun first started) (front_parts IsProperLine run.proper).0.0
         (all_parts IsNoInjection run.front run.between run.no_inject).0 run.front_run
 
     t0_calls : AreHonestCalls link steps whole titles timers (begun ++ (early ++ lost)) at_t0

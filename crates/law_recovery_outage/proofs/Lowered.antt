@@ -1,40 +1,16 @@
 -- What ends come to over whole numbers they come to over the numbers of the wire: an end has the same state there, but for the numbers that it expects.
-use Rattle.std.proofs.Common.{◌≡◌, ℕ, List, ◌++◌, Some, sym, ◌∙◌, ap, subst}
-use Rattle.std.specs.Prelude.{option_map}
+use Rattle.std.proofs.Common.{◌≡◌, ℕ, List, ◌++◌, sym, ◌∙◌, ap, subst}
 use Rattle.osi_base.specs.Link.{Link}
 use Rattle.script_journal.specs.declared.event.Event.{Event}
 use Rattle.tp4_conn.specs.End.{End}
-use Rattle.tp4_conn.specs.Wire.{end_on_wire, halves_on_wire, stage_on_wire}
 use Rattle.tp4_conn.specs.declared.states.InOpened.{InOpened}
 use Rattle.tp4_conn.specs.declared.timers.Timers.{Timers}
 use Rattle.tp4_world.specs.Wire.{world_on_wire}
-use Rattle.tp4_world.specs.World.{World, end_numbered}
-use Rattle.law_calm_run.specs.Service.{end_at_number}
-use Rattle.law_calm_service.proofs.WiredEnds.{placed_on, upper_end, upper_open}
-use Rattle.law_recovery_service.specs.Recovered.{AreBack}
+use Rattle.tp4_world.specs.World.{World}
+use Rattle.law_calm_service.proofs.WiredEnds.{upper_end, upper_open}
 use Rattle.law_recovery_tries.specs.Since.{IsUpToDate}
+use Rattle.law_recovery_wire.proofs.Recovered.{back_on_wire, opened_on_wire}
 use Rattle.law_recovery_outage.specs.Outage.{AreKept, AreKeptCalm}
-
-abbrev opened_on_wire : InOpened → InOpened
-opened_on_wire o = record o { halves = halves_on_wire o.halves }
-
-lower_end : {C : Type 0} (world : World C) (number : ℕ) (end : End) → end_at_number world number ≡ Some end → end_at_number (world_on_wire world) number ≡ Some (end_on_wire end)
-lower_end world number end is = placed_on world number (end_numbered world.ends number) ∙ ap (option_map end_on_wire) is
-
-back_on_wire : {C : Type 0} (t : Timers) (t0 now : ℕ) (journal : List Event) (last : World C) (calling called : ℕ) → AreBack t t0 now journal last calling called
-    → AreBack t t0 now journal (world_on_wire last) calling called
-back_on_wire t t0 now journal last calling called b = record {
-  x = end_on_wire b.x;
-  y = end_on_wire b.y;
-  o = opened_on_wire b.o;
-  q = opened_on_wire b.q;
-  calling_is = lower_end last calling b.x b.calling_is;
-  called_is = lower_end last called b.y b.called_is;
-  calling_open = ap stage_on_wire b.calling_open;
-  called_open = ap stage_on_wire b.called_open;
-  there = λ past. record { expedited = (b.there past).expedited; normal = (b.there past).normal };
-  here = λ past. record { expedited = (b.here past).expedited; normal = (b.here past).normal };
-}
 
 up_from_wire : (t : Timers) (s : ℕ) (o lower : InOpened) → lower ≡ opened_on_wire o → IsUpToDate t s lower → IsUpToDate t s o
 up_from_wire t s o lower is up = let there : IsUpToDate t s (opened_on_wire o) = subst (IsUpToDate t s) is up in record { tried = there.tried; heard = there.heard }

@@ -1,5 +1,5 @@
 -- A network that started, before its first line.
-use Rattle.std.proofs.Common.{◌≡◌, ℕ, List, [], ◌∷◌, None, refl, sym, ◌∙◌, ap, subst, append-nil}
+use Rattle.std.proofs.Common.{◌≡◌, ℕ, List, [], ◌∷◌, None, refl, sym, ap, subst}
 use Rattle.std.specs.List.{AllByRecursion}
 use Rattle.osi_base.specs.Calls.{Call}
 use Rattle.osi_base.specs.Link.{Link, IsLeastFresh}
@@ -16,7 +16,6 @@ use Rattle.tp4_world.specs.First.{IsNew}
 use Rattle.tp4_world.specs.Run.{NoneLeft}
 use Rattle.tp4_world.specs.World.{World}
 use Rattle.tp4_world.specs.declared.place.Placed.{Placed}
-use Rattle.law_tp4_lawful.specs.Called.{AreHonestCalls}
 use Rattle.law_tp4_lawful.specs.First.{IsUntouched}
 use Rattle.law_tp4_lawful.proofs.WorldAsides.{are_aside, told_quiet}
 use Rattle.law_calm_run.specs.Run.{HaveEntities, IsStart}
@@ -26,28 +25,6 @@ use Rattle.law_recovery_ready.specs.Laws.{RunsAreReady}
 use Rattle.law_recovery_ready.specs.Ready.{HasStarted}
 
 module _ {C : Type 0} (link : C → Link (List ℕ)) (steps : C → Call (List ℕ) → C → Type 0) (titles : List (List ℕ)) (timers : Timers) (begun : List Event) (first : World C) (s : HasStarted link steps titles timers begun first) where
-  -- no call yet
-  pub start_called : (wrap : ℕ → ℕ → ℕ) → AreHonestCalls link steps wrap titles timers begun first
-  start_called wrap = record {
-    run = record {
-      made = s.made;
-      placed = s.placed;
-      begun = begun;
-      first = first;
-      calls = [];
-      later = [];
-      is_first = s.is_first;
-      untouched = s.untouched;
-      starts = s.starts;
-      did = (refl, refl);
-      journal_is = sym (append-nil begun);
-    };
-    timed = s.timed;
-    distinct = s.distinct;
-    limits = tt;
-    honest = ap (λ (w : World C). (link w.carrier).honest) s.starts.becomes ∙ s.starts.gathers.stands.honest ∙ s.is_first.carrier_is.honest;
-  }
-
   -- its entities have no end, and whatever tells what waits in the carrier
   abbrev pub Whatever : C → List (CarriedUnit (List ℕ)) → Type 0
   Whatever state queue = Prim.Unit {0}

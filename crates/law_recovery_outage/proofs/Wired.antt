@@ -1,5 +1,5 @@
 -- A run with an outage over the numbers of the wire that begins without ends is one over whole numbers, with the same events, that goes by networks with these numbers at tick s and at tick t0.
-use Rattle.std.proofs.Common.{◌≡◌, ℕ, List, [], ◌∷◌, ◌++◌, None, refl, sym, subst}
+use Rattle.std.proofs.Common.{◌≡◌, ℕ, List, ◌++◌, None, refl, sym, subst}
 use Rattle.std.specs.List.{AllByRecursion}
 use Rattle.osi_base.specs.Calls.{Call}
 use Rattle.osi_base.specs.Link.{Link, IsLeastFresh}
@@ -8,7 +8,7 @@ use Rattle.script_lines.specs.declared.line.Line.{Line}
 use Rattle.script_lines.specs.declared.line.Line.TheVariants as lines
 use Rattle.tp4_number.specs.Number.{whole, wire}
 use Rattle.tp4_conn.specs.declared.timers.Timers.{Timers}
-use Rattle.law_tp4_pair.specs.Calm.{IsSettledScript}
+use Rattle.law_tp4_pair.specs.CalmScript.{IsSettledScript}
 use Rattle.tp4_world.specs.First.{HasNoEnd}
 use Rattle.tp4_world.specs.Laws.{WholeLine, WholeRun}
 use Rattle.tp4_world.specs.Run.{RunsLine, RunsLines}
@@ -16,25 +16,12 @@ use Rattle.tp4_world.specs.Wire.{world_on_wire}
 use Rattle.tp4_world.specs.World.{World}
 use Rattle.tp4_world.specs.declared.place.Placed.{Placed}
 use Rattle.law_calm_service.proofs.Wired.{no_ends}
+use Rattle.law_recovery_wire.proofs.Wired.{lines_above}
 use Rattle.law_recovery_outage.specs.Laws.{OutagesOnWire}
 use Rattle.law_recovery_outage.specs.Outage.{AreKept, AreKeptCalm, CalmOutagesFrom, OutagesFrom, RunsThrough}
 use Rattle.law_recovery_outage.proofs.Lowered.{calm_on_wire, kept_on_wire}
 
 module _ {C : Type 0} (link : C → Link (List ℕ)) (steps : C → Call (List ℕ) → C → Type 0) (whole_run : WholeRun link steps) (whole_line : WholeLine link steps) where
-  -- lines from a network with whole numbers on
-  record GoesAbove (titles : List (List ℕ)) (old : World C) (script : List Line) (journal : List Event) (last : World C) : Type 0 where
-    up : World C
-    runs : RunsLines link steps whole titles old script journal up
-    is : last ≡ world_on_wire up
-
-  lines_above : (titles : List (List ℕ)) (script : List Line) (old : World C) (journal : List Event) (last : World C) → RunsLines link steps wire titles (world_on_wire old) script journal last
-      → GoesAbove titles old script journal last
-  lines_above titles [] old journal last run = record { up = old; runs = (run.0, refl); is = run.1 }
-  lines_above titles (line ∷ script) old journal last run =
-      let first = whole_line titles old line run.1 run.0 run.3 in
-      let rest = lines_above titles script first.0 run.2 last (subst (λ (w : World C). RunsLines link steps wire titles w script run.2 last) first.2 run.5) in
-      record { up = rest.up; runs = (first.0, run.1, run.2, first.1, run.4, rest.runs); is = rest.is }
-
   -- a run with an outage, with the same lines before it
   pub record RunsAbove (titles : List (List ℕ)) (first at_s at_t0 last : World C) (script : List Line) (early lost late : List Event) (front : List Line) : Type 0 where
     pub there : World C
@@ -50,9 +37,9 @@ module _ {C : Type 0} (link : C → Link (List ℕ)) (steps : C → Call (List �
       → (r : RunsThrough link steps wire titles first at_s at_t0 last script early lost late) → RunsAbove titles first at_s at_t0 last script early lost late r.front
   run_above titles first at_s at_t0 last script early lost late none r =
       let front = whole_run titles first r.front early at_s none r.front_run in
-      let between = lines_above titles r.between front.0 r.made r.old (subst (λ (w : World C). RunsLines link steps wire titles w r.between r.made r.old) front.2 r.between_run) in
+      let between = lines_above link steps whole_run whole_line titles r.between front.0 r.made r.old (subst (λ (w : World C). RunsLines link steps wire titles w r.between r.made r.old) front.2 r.between_run) in
       let settle = whole_line titles between.up lines.Settle r.here at_t0 (subst (λ (w : World C). RunsLine link steps wire titles w lines.Settle r.here at_t0) between.is r.settle_run) in
-      let back = lines_above titles r.after settle.0 late last (subst (λ (w : World C). RunsLines link steps wire titles w r.after late last) settle.2 r.late_run) in
+      let back = lines_above link steps whole_run whole_line titles r.after settle.0 late last (subst (λ (w : World C). RunsLines link steps wire titles w r.after late last) settle.2 r.late_run) in
       record {
         there = front.0;
         mid = settle.0;

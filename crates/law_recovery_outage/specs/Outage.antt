@@ -12,7 +12,7 @@ use Rattle.script_lines.specs.declared.line.Line.{Line}
 use Rattle.script_lines.specs.declared.line.Line.TheVariants as lines
 use Rattle.tp4_conn.specs.End.{IsTimed}
 use Rattle.tp4_conn.specs.declared.timers.Timers.{Timers}
-use Rattle.law_tp4_pair.specs.Calm.{IsSettledScript}
+use Rattle.law_tp4_pair.specs.CalmScript.{IsSettledScript}
 use Rattle.tp4_world.specs.First.{IsFirst}
 use Rattle.tp4_world.specs.Run.{RunsLine, RunsLines, Starts}
 use Rattle.tp4_world.specs.World.{World}
@@ -21,8 +21,9 @@ use Rattle.law_tp4_lawful.specs.First.{AreDistinct, IsUntouched}
 use Rattle.law_tp4_lawful.specs.Limits.{IsProperLine}
 use Rattle.law_calm_run.specs.Run.{HaveEntities, IsUnrouted}
 use Rattle.law_recovery_run.specs.Ordered.{HasGone, IsReady, OnPrompt, RunsInOrder}
-use Rattle.law_recovery_run.specs.Run.{IsKept}
-pub use Rattle.law_recovery_service.specs.Kept.{AreKept, AreKeptCalm, IsShort}
+use Rattle.law_recovery_run.specs.Losses.{IsKept}
+pub use Rattle.law_recovery_service.specs.Kept.{AreKept, AreKeptCalm}
+pub use Rattle.law_recovery_service.specs.ShortOutage.{IsShort}
 
 -- ---- the run
 

@@ -4,7 +4,7 @@ use Rattle.std.proofs.lemmas.List.{length-replicate, length-set}
 use Rattle.std.proofs.lemmas.Bool.{cases_lt, cases_eq}
 use Rattle.tpdu.specs.declared.tpdu.Format.{Format}
 use Rattle.tpdu.specs.declared.tpdu.Format.TheVariants as formats
-use Rattle.tp4_flow.specs.Half.{Half, allowed, block_in, dt_arrival, empty, half_granted, taken_dt}
+use Rattle.tp4_flow.specs.ReceivingHalf.{Half, allowed, block_in, dt_arrival, empty, half_granted, taken_dt}
 use Rattle.tp4_flow.specs.declared.rules.FlowRules.{FlowRules}
 use Rattle.tp4_number.specs.declared.got.Got.{Got}
 use Rattle.tp4_number.specs.declared.got.Got.TheVariants.{Kept, TooLarge}

@@ -3,7 +3,7 @@ use Rattle.std.proofs.Common.{◌≡◌, ℕ, zero, suc, ◌+◌, ◌-◌, ◌<�
 use Rattle.std.specs.Prelude.{not, is_some}
 use Rattle.std.proofs.lemmas.Bool.{and_parts, ltb-true, not-false}
 use Rattle.std.proofs.lemmas.Bool.Decides.{nat_tests}
-use Rattle.tp4_flow.specs.Half.{Half}
+use Rattle.tp4_flow.specs.ReceivingHalf.{Half}
 use Rattle.tp4_flow.specs.declared.rules.FlowRules.{FlowRules}
 use Rattle.tp4_flow.specs.declared.rules.Life.{Life}
 use Rattle.tp4_flow.specs.declared.rules.Life.TheVariants.{Goes, Exhausted}
@@ -12,7 +12,7 @@ use Rattle.tp4_number.specs.Number.{near, wire}
 use Rattle.tp4_number.specs.Sender.{Sender, is_newer, marked, told}
 use Rattle.tp4_number.specs.Traffic.{Answer, Rules}
 use Rattle.tp4_number.proofs.Past.{if_kept}
-use Rattle.tp4_sending.specs.FlowSender.{FlowSender, Sendings, block_in, rule_allows, is_noted, one_urgent, sent_normal, has_next, normals, is_urgent, normals_where, new_sends, submitted, urged, acknowledged, is_taken, acknowledged_to, marked_all, resends, resends_urgent_as, due_numbers, life_of, ticked_as, ticked}
+use Rattle.tp4_sending.specs.SendingHalf.{FlowSender, Sendings, block_in, rule_allows, is_noted, one_urgent, sent_normal, has_next, normals, is_urgent, normals_where, new_sends, submitted, urged, acknowledged, is_taken, acknowledged_to, marked_all, resends, resends_urgent_as, due_numbers, life_of, ticked_as, ticked}
 use Rattle.tp4_sending.specs.Pieces.{due_from, end_of, is_due}
 use Rattle.tp4_sending.specs.declared.tries.Tries.{Tries}
 use Rattle.law_tp4_recovery.specs.Recovering.{Ak_arrives, Late_ak, Move, Moves, Resends, Road, Sends, moved}

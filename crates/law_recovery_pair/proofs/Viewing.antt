@@ -8,7 +8,7 @@ use Rattle.tp4_flow.specs.declared.rules.Life.TheVariants.{Goes, Exhausted}
 use Rattle.tp4_number.specs.Number.{near}
 use Rattle.tp4_number.specs.Sender.{Sender, is_newer, told}
 use Rattle.tp4_number.proofs.Past.{if_kept}
-use Rattle.tp4_sending.specs.FlowSender.{FlowSender, Sendings, block_in, rule_allows, is_noted, one_urgent, sent_normal, has_next, normals, is_urgent, normals_where, new_sends, submitted, urged, acknowledged, is_taken, acknowledged_to, is_outstanding, urgent_done, opened, resends, resends_urgent_as, life_of, ticked_as, ticked}
+use Rattle.tp4_sending.specs.SendingHalf.{FlowSender, Sendings, block_in, rule_allows, is_noted, one_urgent, sent_normal, has_next, normals, is_urgent, normals_where, new_sends, submitted, urged, acknowledged, is_taken, acknowledged_to, is_outstanding, urgent_done, opened, resends, resends_urgent_as, life_of, ticked_as, ticked}
 use Rattle.tp4_sending.specs.Pieces.{end_of}
 use Rattle.law_recovery_pair.specs.Viewing.{IsWithin, KeepsView, TakesView}
 use Rattle.law_recovery_pair.proofs.RidingSends.{IsAlike, again_alike, urgent_alike}

@@ -1,13 +1,13 @@
 -- What each call of a half does to the road between two ends since when nothing is lost, to what a sending half knows, and to the places of a receiving half (X.224,
 -- class 4: retransmission, sequencing, explicit flow control).
 use Rattle.std.specs.Prelude.{◌≡◌, ℕ, ◌+◌, ◌<◌, ◌≤◌, List, ◌∷◌, ◌++◌, length, Contains, ◌⊎◌}
-use Rattle.tp4_flow.specs.Half.{Half, allowed, block_in as block_there, dt_arrival, half_granted, taken_dt, empty}
+use Rattle.tp4_flow.specs.ReceivingHalf.{Half, allowed, block_in as block_there, dt_arrival, half_granted, taken_dt, empty}
 use Rattle.tp4_number.specs.declared.got.Got.TheVariants.{TooLarge}
 use Rattle.tp4_number.specs.declared.piece.Piece.{Piece}
 use Rattle.tp4_number.specs.Number.{whole, wire, near}
 use Rattle.tp4_number.specs.Sender.{Sender}
 use Rattle.tp4_number.specs.Traffic.{Answer, Rules}
-use Rattle.tp4_sending.specs.FlowSender.{FlowSender, acknowledged, block_in, submitted, ticked, urged, opened, urgent_done}
+use Rattle.tp4_sending.specs.SendingHalf.{FlowSender, acknowledged, block_in, submitted, ticked, urged, opened, urgent_done}
 use Rattle.law_recovery_pair.specs.Riding.{Aside, GoesOn, HearsOn, SendsOn, road_of, said_aside, says_now}
 use Rattle.tp4_flow.specs.declared.rules.FlowRules.{FlowRules}
 use Rattle.law_recovery_pair.specs.Fitting.{Fits}

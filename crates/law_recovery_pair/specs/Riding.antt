@@ -1,7 +1,7 @@
 -- A sending half and the receiving half of its partner as a road: what the halves have of its traffic, and the rest of it beside them (X.224, class 4:
 -- retransmission, explicit flow control). So what a half does is moves of the road, and the road after them is computed.
 use Rattle.std.specs.Prelude.{ℕ, List, [], ◌∷◌, ◌++◌}
-use Rattle.tp4_flow.specs.Half.{Half}
+use Rattle.tp4_flow.specs.ReceivingHalf.{Half}
 use Rattle.tp4_flow.specs.declared.rules.FlowRules.{FlowRules}
 use Rattle.tp4_number.specs.Formats.{block_of}
 use Rattle.tp4_number.specs.Sender.{Sender}

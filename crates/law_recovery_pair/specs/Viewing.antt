@@ -1,6 +1,6 @@
 -- What a sending half knows of its receiver, over its calls (X.224, class 4: explicit flow control).
 use Rattle.std.specs.Prelude.{◌≡◌, ℕ, ◌+◌, ◌≤◌}
-use Rattle.tp4_sending.specs.FlowSender.{FlowSender}
+use Rattle.tp4_sending.specs.SendingHalf.{FlowSender}
 
 -- no number was sent beyond the window
 abbrev pub IsWithin : FlowSender → Type 0

@@ -16,7 +16,7 @@ use Rattle.tp4_world.specs.World.{World, entity_at}
 use Rattle.law_tp4_history.specs.Ends.{Times}
 use Rattle.law_tp4_history.specs.Journals.{Written}
 use Rattle.law_tp4_history.specs.Tracks.{IsNothing, Whole}
-use Rattle.law_tp4_pair.specs.Calm.{IsSettledScript}
+use Rattle.law_tp4_pair.specs.CalmScript.{IsSettledScript}
 use Rattle.law_tp4_proper.specs.Rest.{AreInTime, AreProper}
 use Rattle.law_tp4_lawful.specs.Called.{AreHonestCalls}
 use Rattle.law_tp4_lawful.specs.Limits.{IsProperLine}
@@ -39,7 +39,7 @@ use Rattle.law_recovery_ready.proofs.Usual.{Fits, lines_fit, settle_fits, start_
 -- ---- lines
 
 -- a settled script injects nothing
-settled_none : (script : List Line) → IsSettledScript script → HasNoInject script
+pub settled_none : (script : List Line) → IsSettledScript script → HasNoInject script
 settled_none [] calm = tt
 settled_none (lines.Nothing ∷ script) calm = (tt, settled_none script calm)
 settled_none (lines.Settle ∷ script) calm = (tt, settled_none script calm)
@@ -59,7 +59,7 @@ parts link steps wrap titles P first at_t0 last script early late run all =
 
 module _ {C : Type 0} (link : C → Link (List ℕ)) (steps : C → Call (List ℕ) → C → Type 0) (wrap : ℕ → ℕ → ℕ) (titles : List (List ℕ)) (timers : Timers) where
   -- no call yet
-  start_called : (begun : List Event) (first : World C) → HasStarted link steps titles timers begun first → AreHonestCalls link steps wrap titles timers begun first
+  pub start_called : (begun : List Event) (first : World C) → HasStarted link steps titles timers begun first → AreHonestCalls link steps wrap titles timers begun first
   start_called begun first s = record {
     run = record {
       made = s.made;

@@ -1,4 +1,4 @@
-mod Beginning
-mod Calls
+pub mod Beginning
+pub mod Calls
 mod Numbers
 mod Usual

@@ -38,7 +38,8 @@ use Rattle.tp4_entity.specs.Step.{calling, connect_refusal, connecting, restarte
 use Rattle.tp4_entity.specs.declared.refusal.ConnectRefusal.{ConnectRefusal}
 use Rattle.tp4_entity.specs.declared.refusal.EntityRefusal.{EntityRefusal}
 use Rattle.tp4_world.specs.First.{IsFirst, IsNew}
-use Rattle.tp4_world.specs.Run.{Acts, BeginsAt, Calls, CallsAt, CallsBy, CallsEnd, Connects, ConnectsBy, Delivers, Hears, HearsAll, HearsIf, IsRefused, NoneDue, NoneLeft, OneDue, OneMore, Restarts, RunsLine, RunsLines, SendsRaw, SendsTpdu, SendsTpdus, Settles, Starts, Ticks, TicksAll, TicksEntity, TooMany, clock_of, has_ended, is_for, transport_address, transport_wish}
+use Rattle.tp4_world.specs.Run.{Acts, BeginsAt, Calls, CallsAt, CallsBy, CallsEnd, Connects, ConnectsBy, Delivers, Hears, HearsAll, HearsIf, IsRefused, NoneDue, NoneLeft, OneDue, OneMore, Restarts, RunsLine, RunsLines, SendsRaw, SendsTpdu, SendsTpdus, Settles, Starts, Ticks, TicksAll, TicksEntity, TooMany, clock_of, is_for, transport_address, transport_wish}
+use Rattle.tp4_world.specs.Ended.{has_ended}
 use Rattle.tp4_world.specs.Telling.{told_connect, told_refusal}
 use Rattle.tp4_world.specs.World.{World, end_numbered, entity_at, with_entity}
 use Rattle.tp4_world.specs.declared.place.EndAt.{EndAt}
@@ -49,6 +50,7 @@ use Rattle.law_tp4_lawful.proofs.WorldPlaces.{none_some}
 use Rattle.law_calm_run.specs.Run.{HaveEntities, IsUnrouted}
 use Rattle.law_calm_run.proofs.Going.{have_after}
 use Rattle.law_calm_run.proofs.Hall.{IsAddress}
+use Rattle.law_calm_run.proofs.Queueing.{raw_between}
 use Rattle.law_tp4_lawful.proofs.WorldStarts.{found}
 use Rattle.law_recovery_run.specs.Ordered.{LeadsOn, ReachedFrom}
 
@@ -335,13 +337,7 @@ module _ {C : Type 0} (link : C → Link (List ℕ)) (steps : C → Call (List �
   unit_sent old new system to sender receiver wish [] made b title_is to_is path s = subst Bears (sym s.1) b
   unit_sent old new system to sender receiver wish (octet ∷ octets) made b title_is to_is path s =
       let unit : CarriedUnit (List ℕ) = raw_unit sender receiver (octet ∷ octets) in
-      let between : IsBetween titles unit = record {
-        sender = system;
-        receiver = to;
-        from = record { title = sender; title_is = title_is; selector = 2; known = inr refl; address_is = refl };
-        to = record { title = receiver; title_is = to_is; selector = 2; known = inr refl; address_is = refl };
-      } in
-      offered old new unit wish s.0 s.1 b between path (λ transport. absurd (raw_is (selector_of (raw_address receiver)) (selector_of-append (system_part receiver) 2) transport)) s.2
+      offered old new unit wish s.0 s.1 b (raw_between titles system to sender receiver (octet ∷ octets) title_is to_is) path (λ transport. absurd (raw_is (selector_of (raw_address receiver)) (selector_of-append (system_part receiver) 2) transport)) s.2
 
   raw : (old new : World C) (system to : ℕ) (sender receiver : List ℕ) (wish : Wish) (octets : List ℕ) (made : List Event) → Fits old → slice_get titles system ≡ Some sender
       → slice_get titles to ≡ Some receiver → wish.path ≡ 0 → SendsRaw link steps old system sender receiver wish octets made new → Fits new

@@ -1,6 +1,6 @@
 -- What waits first comes to an entity: an end in CrWait stays as it is or takes an answer, the end that it calls stays in UserWait, and its CR makes that end where there is none, or a DR
 -- goes back.
-use Rattle.std.proofs.Common.{◌≡◌, ◌⊎◌, inl, inr, ℕ, ◌+◌, ◌<◌, ◌==◌, Bool, true, false, List, [], ◌∷◌, ◌++◌, length, Some, None, refl, sym, ◌∙◌, ap, subst, arith}
+use Rattle.std.proofs.Common.{◌≡◌, ◌⊎◌, inl, inr, ℕ, ◌<◌, ◌==◌, Bool, true, false, List, [], ◌∷◌, ◌++◌, Some, None, refl, sym, ◌∙◌, ap, subst, arith}
 use Rattle.std.specs.Prelude.{◌&&◌, if◌then◌else◌}
 use Rattle.std.specs.List.{Contains}
 use Rattle.std.specs.Cmp.Lexicographic.{bytes_decides}
@@ -27,14 +27,15 @@ use Rattle.tp4_conn.specs.declared.states.StateData.TheVariants as stages
 use Rattle.tp4_conn.specs.declared.timers.Timers.{Timers}
 use Rattle.tp4_entity.specs.Association.{is_registered, met, met_by, refusal, unmatched}
 use Rattle.tp4_entity.specs.Entity.{Acted, Entity, at, end_at, moved}
-use Rattle.tp4_entity.specs.References.{is_free_place, is_silent}
+use Rattle.tp4_entity.specs.References.{is_free_place}
+use Rattle.tp4_entity.specs.Silence.{is_silent}
 use Rattle.tp4_entity.proofs.Standings.{within}
 use Rattle.law_tp4_associations.specs.Phase.{IsAsking}
 use Rattle.law_tp4_history.specs.Ends.{Birth}
 use Rattle.law_tp4_history.specs.Tracks.{Whole}
 use Rattle.law_tp4_moves.specs.Moves.{IsSeenIn, stop_of}
 use Rattle.tp4_world.specs.Telling.{ends_after}
-use Rattle.tp4_world.specs.World.{World, entity_at, is_at, latest, latest_from}
+use Rattle.tp4_world.specs.World.{World, entity_at, latest}
 use Rattle.tp4_world.specs.declared.place.EndAt.{EndAt}
 use Rattle.tp4_world.specs.declared.place.Placed.{Placed}
 use Rattle.tp4_world.proofs.Having.{with_any}
@@ -49,7 +50,8 @@ use Rattle.law_tp4_ended.proofs.Entities.{did_take}
 use Rattle.law_tp4_ended.proofs.Places.{silent_like}
 use Rattle.law_tp4_ended.proofs.Worlds.{IsFitWorld}
 use Rattle.law_calm_run.proofs.Hall.{Post, posted}
-use Rattle.law_recovery_run.proofs.Aside.{both_are, kept_place}
+use Rattle.law_calm_run.proofs.Newest.{latest_elsewhere}
+use Rattle.law_recovery_run.proofs.Aside.{kept_place}
 use Rattle.law_recovery_walk.specs.Following.{Stands}
 use Rattle.law_recovery_walk.proofs.Delivering.{HasActed}
 use Rattle.law_recovery_request.specs.Requesting.{AreListening, AreUnanswered, HasTaken, IsPast, IsRefusal, IsUnanswered, cr_from, in_cr_wait}
@@ -67,23 +69,8 @@ first_or_rest {A} one x others among = elim (Contains-append_cases (one ∷ []) 
   | inr more ↦ inr more
 ]
 
--- an end is made at another place
-made_last : (next found : ℕ) (ends : List EndAt) (end : EndAt) (system reference : ℕ)
-    → latest_from next found (ends ++ end ∷ []) system reference ≡ (if is_at system reference end then next + length ends else latest_from next found ends system reference)
-made_last next found [] end system reference = ap (λ (n : ℕ). if is_at system reference end then n else found) (omega arith)
-made_last next found (one ∷ ends) end system reference =
-    made_last (next + 1) (if is_at system reference one then next else found) ends end system reference
-    ∙ ap (λ (n : ℕ). if is_at system reference end then n else latest_from (next + 1) (if is_at system reference one then next else found) ends system reference) (omega arith)
-
-made_elsewhere : (ends : List EndAt) (end : EndAt) (system reference : ℕ) → (system ≡ end.system → reference ≡ end.reference → ⊥) → latest (ends ++ end ∷ []) system reference ≡ latest ends system reference
-made_elsewhere ends end system reference apart = made_last 1 0 ends end system reference ∙ by (is_at system reference end) refl
-  where
-    by : (b : Bool) → is_at system reference end ≡ b → (if b then 1 + length ends else latest ends system reference) ≡ latest ends system reference
-    by true is = let both = both_are (end.system == system) (end.reference == reference) is in absurd (apart (sym (eqb-true end.system system both.0)) (sym (eqb-true end.reference reference both.1)))
-    by false is = refl
-
 -- a calling end is no called one
-seen_calls : (birth : Birth) (took last : ℕ) (b : EndRecord) (stage : StateData) → IsSeenIn birth took last b stage → IsAsking stage → b.is_called ≡ false
+pub seen_calls : (birth : Birth) (took last : ℕ) (b : EndRecord) (stage : StateData) → IsSeenIn birth took last b stage → IsAsking stage → b.is_called ≡ false
 seen_calls birth took last b (stages.CrWait w) seen asking = seen.calls
 seen_calls birth took last b (stages.WaitBeforeClose w) seen asking = seen.calls
 seen_calls birth took last b stage seen asking = absurd asking
@@ -145,6 +132,31 @@ module _ {C : Type 0} (system x : ℕ) (from : List ℕ) (N : Type 0) (b : EndRe
     pub here : IsHere world
     pub unanswered : AreUnanswered world b.to from b.own
     pub pending : IsPending world posts
+
+  -- they stand so where no entity changed
+  module _ (old new : World C) (entities : new.entities ≡ old.entities) where
+    pub here_same : new.ends ≡ old.ends → IsHere old → IsHere new
+    here_same ends h = record {
+      entity = h.entity;
+      there = ap (λ (ps : List Placed). entity_at ps system) entities ∙ h.there;
+      own_is = h.own_is;
+      stands = h.stands;
+      number = ap (λ (es : List EndAt). latest es system b.own) ends ∙ h.number;
+    }
+
+    pub waiting_same : IsWaiting old → IsWaiting new
+    waiting_same d = record {
+      at_system = d.at_system;
+      own = d.own;
+      entity = d.entity;
+      end = d.end;
+      since = d.since;
+      there = ap (λ (ps : List Placed). entity_at ps d.at_system) entities ∙ d.there;
+      own_is = d.own_is;
+      stands = d.stands;
+      stage = d.stage;
+      called = d.called;
+    }
 
 module _ {C : Type 0} (link : C → Link (List ℕ)) (titles : List (List ℕ)) (timers : Timers) (w : Whole) (journal : List JournalEvent) (old : World C) (explains : Explains link titles timers w journal old)
     (new : World C) (post : Post) (rest : List Post) (made : List JournalEvent) (a : HasActed link old new post made) where
@@ -215,7 +227,7 @@ module _ {C : Type 0} (link : C → Link (List ℕ)) (titles : List (List ℕ)) 
               (row_of whole now p.base.own p (Took t sum) (refl, stage_of (w.base.end k.k).birth (w.base.end k.k).took (w.base.end k.k).latest p.base p.stage k.sees.state)).told
       by (Makes own base octets free own_is is) =
           ap (λ (m : Acted). latest (ends_after old.ends a.system m.events) s reference) is
-          ∙ made_elsewhere old.ends (record { system = a.system; reference = base.own }) s reference (λ at_it same.
+          ∙ latest_elsewhere old.ends (record { system = a.system; reference = base.own }) s reference (λ at_it same.
           let owner : z ≡ a.entity = same_Some z a.entity (sym there ∙ ap (entity_at old.entities) at_it ∙ a.there) in
           kept_place now (frozen_for o.base.timers) o.stage goes (ap (is_free_place now) (sym stands ∙ (λ i. end_at (owner i) ((same ∙ own_is) i))) ∙ free.free))
           ∙ number

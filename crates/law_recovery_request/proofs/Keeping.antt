@@ -12,14 +12,15 @@ use Rattle.tpdu.specs.Values.{destination_of, format_for}
 use Rattle.tpdu.specs.Writing.{IsAllowed, is_summed, kind_for}
 use Rattle.tpdu.specs.declared.tpdu.Format.{Format}
 use Rattle.tpdu.specs.declared.tpdu.Tpdu.{Tpdu as WireTpdu}
-use Rattle.tpdu.specs.declared.tpdu.Tpdu.TheVariants as wires
 use Rattle.tp4_number.specs.Number.{whole}
 use Rattle.tp4_flow.specs.declared.step.Sent.{Sent}
 use Rattle.tp4_conn.specs.Agreeing.{request}
 use Rattle.tp4_conn.specs.CrWait.{cr_wait_tpdu}
 use Rattle.tp4_conn.specs.End.{End, Moved, agreed_format}
+use Rattle.tp4_conn.specs.Living.{IsFit}
 use Rattle.tp4_conn.specs.Matching.{fits, is_called_by, is_match}
-use Rattle.tp4_conn.specs.Table.{Took, stepped}
+use Rattle.tp4_conn.specs.Proper.{IsProperEvent}
+use Rattle.tp4_conn.specs.Table.{Event, Took, stepped}
 use Rattle.tp4_conn.specs.declared.end_record.EndRecord.{EndRecord}
 use Rattle.tp4_conn.specs.declared.states.InCrWait.{InCrWait}
 use Rattle.tp4_conn.specs.declared.timers.Timers.{Timers}
@@ -31,7 +32,7 @@ use Rattle.tp4_entity.proofs.Formats.{format_is}
 use Rattle.law_tp4_history.specs.History.{IsPartner}
 use Rattle.law_tp4_history.specs.Tracks.{Whole}
 use Rattle.law_tp4_history.proofs.Sound.{partner_address}
-use Rattle.law_tp4_moves.specs.Moves.{HasSource, Sees, stop_of, times_of}
+use Rattle.law_tp4_moves.specs.Moves.{HasSource, IsSourced, Sees, stop_of, times_of}
 use Rattle.law_tp4_moves.specs.Seen.{seen}
 use Rattle.tp4_world.specs.World.{World, entity_at, latest}
 use Rattle.tp4_world.proofs.Addressees.{all_append}
@@ -44,37 +45,13 @@ use Rattle.law_recovery_run.proofs.Aiming.{Going}
 use Rattle.law_recovery_run.proofs.Aside.{both_are, going_of}
 use Rattle.law_recovery_run.proofs.Rivals.{far, here, partner_there, sound}
 use Rattle.law_recovery_walk.proofs.Delivering.{HasActed}
+pub use Rattle.law_recovery_walk.proofs.Delivering.{read_names, read_sourced}
 use Rattle.law_tp4_ended.proofs.Worlds.{IsFitWorld}
 use Rattle.law_recovery_walk.proofs.Naming.{NamedBy, row_aims, row_named, row_sourced}
 use Rattle.law_recovery_walk.proofs.Waiting.{posted_each}
 use Rattle.law_recovery_request.specs.Requesting.{AreListening, AreUnanswered, HasTaken, cr_from, in_cr_wait}
 use Rattle.law_recovery_request.proofs.Coming.{AreRegistered, IsHere, IsRefusalOf, IsUnsettled, came_as, met_so, unsettled_on}
 use Rattle.law_recovery_request.proofs.Meeting.{IsAnswerTo, IsAsked, IsMet, IsReasonOf, Made, Makes, Refused, Stays, Takes, There, asks, no_fit, reason_as}
-
--- ---- what is read
-
-no_number : (t : WireTpdu) (reference : ℕ) → Names reference t → has_number (kind_for t) ≡ false
-no_number (wires.Cr credit source width calling called size preferred extra version classes ack_time text) reference names = refl
-no_number (wires.Cc credit destination source width calling called size preferred extra version classes ack_time text) reference names = refl
-no_number (wires.Dr destination source reason info text) reference names = refl
-no_number other reference names = absurd names
-
-no_cc : (t : WireTpdu) → has_number (kind_for t) ≡ true → HasSource (seen 0 t)
-no_cc (wires.Dt destination last number text) has = λ kind. absurd (cc kind)
-no_cc (wires.Ed destination last number text) has = λ kind. absurd (cc kind)
-no_cc (wires.Ak destination number credit subsequence confirmation) has = λ kind. absurd (cc kind)
-no_cc (wires.Ea destination number) has = λ kind. absurd (cc kind)
-no_cc other has = absurd (cc has)
-
-pub read_names : (entity : Entity) (sent : Sent) (t : WireTpdu) (sum : Bool) (reference : ℕ) → IsReadAs entity sent (t, sum) → Names reference t → Names reference sent.tpdu
-read_names entity sent t sum reference read names = subst (Names reference) (read.control (ap has_number (sym read.kind) ∙ no_number t reference names)) names
-
-pub read_sourced : (entity : Entity) (sent : Sent) (t : WireTpdu) (sum : Bool) → IsReadAs entity sent (t, sum) → HasSource (seen 0 sent.tpdu) → HasSource (seen 0 t)
-read_sourced entity sent t sum read has = by (has_number (kind_for sent.tpdu)) refl
-  where
-    by : (c : Bool) → has_number (kind_for sent.tpdu) ≡ c → HasSource (seen 0 t)
-    by true is = no_cc t (ap has_number read.kind ∙ is)
-    by false is = subst (λ (u : WireTpdu). HasSource (seen 0 u)) (sym (read.control is)) has
 
 -- ---- what waits
 
@@ -91,14 +68,98 @@ pub record IsKeptApart (system : ℕ) (from : List ℕ) (N : Type 0) (b : EndRec
   pub sourced : HasSource (seen 0 post.sent.tpdu)
 
 -- each is so, where one of them would be the reason that all are
-each_of : (P Q R : Sent → Type 0) (W : Type 0) (sents : List Sent) → ((sent : Sent) → P sent → Q sent → W) → (W → AllByRecursion R sents) → AllByRecursion P sents
+pub each_of : (P Q R : Sent → Type 0) (W : Type 0) (sents : List Sent) → ((sent : Sent) → P sent → Q sent → W) → (W → AllByRecursion R sents) → AllByRecursion P sents
     → AllByRecursion (λ (sent : Sent). Q sent → R sent) sents
 each_of P Q R W [] why all ps = tt
 each_of P Q R W (sent ∷ sents) why all ps = (λ q. (all (why sent ps.0 q)).0, each_of P Q R W sents why (λ v. (all v).1) ps.1)
 
-both_of : (P Q : Sent → Type 0) (R : Sent → Type 0) (sents : List Sent) → ((sent : Sent) → P sent → Q sent → R sent) → AllByRecursion P sents → AllByRecursion Q sents → AllByRecursion R sents
+pub both_of : (P Q : Sent → Type 0) (R : Sent → Type 0) (sents : List Sent) → ((sent : Sent) → P sent → Q sent → R sent) → AllByRecursion P sents → AllByRecursion Q sents → AllByRecursion R sents
 both_of P Q R [] f ps qs = tt
 both_of P Q R (sent ∷ sents) f ps qs = (f sent ps.0 qs.0, both_of P Q R sents f ps.1 qs.1)
+
+pub where_so : (W : Type 0) (Q : Sent → Type 0) (sents : List Sent) → (W → AllByRecursion Q sents) → AllByRecursion (λ (sent : Sent). W → Q sent) sents
+where_so W Q [] all = tt
+where_so W Q (sent ∷ sents) all = ((λ v. (all v).0), where_so W Q sents (λ v. (all v).1))
+
+-- ---- the end that asked, and another one
+
+module _ {C : Type 0} (link : C → Link (List ℕ)) (titles : List (List ℕ)) (timers : Timers) (w : Whole) (journal : List JournalEvent) (old : World C) (explains : Explains link titles timers w journal old)
+    (going : Going) (system x : ℕ) (from : List ℕ) (N : Type 0) (b : EndRecord) (r : InCrWait) (h : IsHere system x from N b r old) where
+  abbrev theirs : IsGoing old x
+  theirs = record { system = system; reference = b.own; entity = h.entity; end = in_cr_wait b r; is_end = record { there = h.there; stands = h.stands; number = h.number }; goes = refl }
+
+  -- a history knows it
+  abbrev pub asking_known : (is : IsKnown w h.entity.own b.own (in_cr_wait b r)) × (is.k + 1 ≡ x)
+  asking_known = far link titles timers w journal old explains x theirs
+
+  pub asking_some : b.own ≢ 0
+  asking_some none = none-some (in_cr_wait b r) (ap (end_at h.entity) (sym none) ∙ h.stands)
+
+  module _ (s : ℕ) (entity : Entity) (there : entity_at old.entities s ≡ Some entity) (reference : ℕ) (o : End) (stands : end_at entity reference ≡ Some o) where
+    -- an end that is for it was called by it
+    for_it : stop_of o.stage ≡ None → o.base.to ≡ from → o.base.partner ≡ b.own → (entity.own ≡ b.to) × (is_called_by o.base from b.own ≡ true)
+    for_it goes to partner_is = by (partner_there link titles timers w journal old explains z x theirs rival)
+      where
+        z : ℕ
+        z = latest old.ends s reference
+
+        rival : IsFor old z h.entity.own b.own
+        rival = record {
+          going = record { system = s; reference = reference; entity = entity; end = o; is_end = record { there = there; stands = stands; number = refl }; goes = goes };
+          to_is = to ∙ sym h.own_is;
+          partner_is = partner_is;
+        }
+
+        other : (q : IsKnown w entity.own reference o) × (q.k + 1 ≡ z)
+        other = here link titles timers w journal old explains z x theirs rival
+
+        two : false ≡ true → ⊥
+        two f = cc f
+
+        by : IsPartner w.base (here link titles timers w journal old explains z x theirs rival).0.k (far link titles timers w journal old explains x theirs).0.k → (entity.own ≡ b.to) × (is_called_by o.base from b.own ≡ true)
+        by (inl c) = absurd (two (sym asking_known.0.sees.state.calls ∙ sym asking_known.0.sees.is_called ∙ c.called))
+        by (inr c) =
+            let called : o.base.is_called ≡ true = sym other.0.sees.is_called ∙ c.called in
+            let address : entity.own ≡ b.to =
+            sym other.0.at.address ∙ sym (partner_address (times_of timers) w.base (sound link titles timers w journal old explains) asking_known.0.k other.0.k (inl c)) ∙ asking_known.0.sees.partner in
+            let to_true : pointwise nat_eq o.base.to from ≡ true = (bytes_decides o.base.to from).1 to in
+            (address, λ i. called i && (to_true i && eq-eqb o.base.partner b.own partner_is i))
+
+    -- what a row of another one sends that it did not call is not for it, nor in its name
+    pub row_apart : (event : Event) → (s ≡ system → reference ≡ b.own → ⊥) → ((entity.own ≡ b.to) × (is_called_by o.base from b.own ≡ true) → ⊥) → stop_of o.stage ≡ None → IsFit o event → IsSourced 0 event
+        → IsProperEvent o event → (o.base.to ≡ from → NamedBy event b.own → ⊥)
+        → AllByRecursion (λ (sent : Sent). IsKeptApart system from N b r (record { system = s; sent = sent })) (stepped whole (link old.carrier).clock o event).tpdus
+    row_apart event apart other goes fit sourced may unnamed =
+        both_of (λ (sent : Sent). IsSentTo from b.own sent → ⊥) (λ (sent : Sent). (s ≡ system → Names b.own sent.tpdu → ⊥) × HasSource (seen 0 sent.tpdu))
+        (λ (sent : Sent). IsKeptApart system from N b r (record { system = s; sent = sent })) m.tpdus
+        (λ sent none more. record { refused = λ to_it. absurd (none to_it); named = λ at_it names. absurd (more.0 at_it names); sourced = more.1 })
+        (row_aims going now (times_of o.base.timers) (w.base.end known.k) o event sees stop fit sourced known.proper may from b.own bad)
+        (both_of (λ (sent : Sent). s ≡ system → Names b.own sent.tpdu → ⊥) (λ (sent : Sent). HasSource (seen 0 sent.tpdu))
+        (λ (sent : Sent). (s ≡ system → Names b.own sent.tpdu → ⊥) × HasSource (seen 0 sent.tpdu)) m.tpdus (λ sent one more. (one, more))
+        (where_so (s ≡ system) (λ (sent : Sent). Names b.own sent.tpdu → ⊥) m.tpdus
+        (λ at_it. row_named going now (times_of o.base.timers) (w.base.end known.k) o event sees stop fit sourced known.proper may b.own asking_some (λ same. apart at_it (sym known.at.reference_is ∙ same))))
+        (row_sourced going now (times_of o.base.timers) (w.base.end known.k) o event sees stop fit sourced known.proper may ((sound link titles timers w journal old explains).own known.k known.at.low).some))
+      where
+        now : ℕ
+        now = (link old.carrier).clock
+
+        m : Moved
+        m = stepped whole now o event
+
+        known : IsKnown w entity.own reference o
+        known = subst (IsThere w entity.own reference) stands ((explains.known.holds s entity there).there reference)
+
+        sees : Sees (times_of o.base.timers) now (w.base.end known.k) o
+        sees = subst (λ (n : ℕ). Sees (times_of o.base.timers) n (w.base.end known.k) o) (sym explains.carries.clock) known.sees
+
+        stop : (w.base.end known.k).stop ≡ None
+        stop = known.sees.stop ∙ goes
+
+        bad : o.base.to ≡ from → (o.base.partner ≡ b.own) ⊎ NamedBy event b.own → ⊥
+        bad to (inl partner) = other (for_it goes to partner)
+        bad to (inr named) = unnamed to named
+
+-- ---- what comes to an entity
 
 -- no end that it called takes what came
 module _ {C : Type 0} (link : C → Link (List ℕ)) (old new : World C) (post : Post) (made : List JournalEvent) (a : HasActed link old new post made) (from : List ℕ) (b : EndRecord) where
@@ -122,15 +183,6 @@ module _ {C : Type 0} (link : C → Link (List ℕ)) (titles : List (List ℕ)) 
 
   abbrev asking : End
   asking = in_cr_wait b r
-
-  abbrev theirs : IsGoing old x
-  theirs = record { system = system; reference = b.own; entity = h.entity; end = asking; is_end = record { there = h.there; stands = h.stands; number = h.number }; goes = refl }
-
-  abbrev k : (is : IsKnown w h.entity.own b.own asking) × (is.k + 1 ≡ x)
-  k = far link titles timers w journal old explains x theirs
-
-  some : b.own ≢ 0
-  some none = none-some asking (ap (end_at h.entity) (sym none) ∙ h.stands)
 
   -- what comes in the name of the end is its CR
   is_cr : (t : WireTpdu) (sum : Bool) → IsReadAs a.entity post.sent (t, sum) → a.sender.own ≡ from → Names b.own t → post ≡ cr_from system b r
@@ -179,7 +231,7 @@ module _ {C : Type 0} (link : C → Link (List ℕ)) (titles : List (List ℕ)) 
   answered : AllByRecursion (IsAnswerTo (λ t sum. IsReadAs a.entity post.sent (t, sum)) a.sender.own) a.acted.tpdus → AllByRecursion Apart a.acted.tpdus
   answered answers =
       both_of (IsAnswerTo (λ t sum. IsReadAs a.entity post.sent (t, sum)) a.sender.own) (λ (sent : Sent). IsSentTo from b.own sent → IsRefusalTo from N b.own sent) Apart a.acted.tpdus
-      (λ sent answer refused. record { refused = refused; named = λ at_it names. absurd (answer.unnamed b.own some names); sourced = answer.sourced })
+      (λ sent answer refused. record { refused = refused; named = λ at_it names. absurd (answer.unnamed b.own (asking_some link titles timers w journal old explains going system x from N b r h) names); sourced = answer.sourced })
       answers
       (each_of (IsAnswerTo (λ t sum. IsReadAs a.entity post.sent (t, sum)) a.sender.own) (IsSentTo from b.own) (IsRefusalTo from N b.own) (post ≡ cr_from system b r) a.acted.tpdus
       (λ sent answer to_it. is_cr answer.t answer.sum answer.read (sym answer.to ∙ to_it.address)
@@ -200,72 +252,22 @@ module _ {C : Type 0} (link : C → Link (List ℕ)) (titles : List (List ℕ)) 
     goes : stop_of o.stage ≡ None
     goes = going_of o.base o.stage t is.1
 
-    known : IsKnown w a.entity.own reference o
-    known = subst (IsThere w a.entity.own reference) there ((explains.known.holds a.system a.entity a.there).there reference)
-
-    sees : Sees (times_of o.base.timers) now (w.base.end known.k) o
-    sees = subst (λ (n : ℕ). Sees (times_of o.base.timers) n (w.base.end known.k) o) (sym explains.carries.clock) known.sees
-
-    stop : (w.base.end known.k).stop ≡ None
-    stop = known.sees.stop ∙ goes
-
     may : IsAllowed (agreed_format o.base.agreed) t
     may = subst (λ (format : Format). IsAllowed format t) (ap (format_for (extended_of a.entity)) target ∙ format_is a.entity reference ∙ ap format_of there) read.allowed
 
     sourced : HasSource (seen 0 t)
     sourced = read_sourced a.entity post.sent t sum read quiet.0.sourced
 
-    -- an end that is for this one was called by it, so its user has answered
-    mine : o.base.to ≡ from → o.base.partner ≡ b.own → ⊥
-    mine to partner_is = by (partner_there link titles timers w journal old explains z x theirs rival)
-      where
-        z : ℕ
-        z = latest old.ends a.system reference
-
-        rival : IsFor old z h.entity.own b.own
-        rival = record {
-          going = record { system = a.system; reference = reference; entity = a.entity; end = o; is_end = record { there = a.there; stands = there; number = refl }; goes = goes };
-          to_is = to ∙ sym h.own_is;
-          partner_is = partner_is;
-        }
-
-        other : (q : IsKnown w a.entity.own reference o) × (q.k + 1 ≡ z)
-        other = here link titles timers w journal old explains z x theirs rival
-
-        two : false ≡ true → ⊥
-        two f = cc f
-
-        by : IsPartner w.base (here link titles timers w journal old explains z x theirs rival).0.k (far link titles timers w journal old explains x theirs).0.k → ⊥
-        by (inl c) = two (sym k.0.sees.state.calls ∙ sym k.0.sees.is_called ∙ c.called)
-        by (inr c) =
-            let called : o.base.is_called ≡ true = sym other.0.sees.is_called ∙ c.called in
-            let address : a.entity.own ≡ b.to = sym other.0.at.address ∙ sym (partner_address (times_of timers) w.base (sound link titles timers w journal old explains) k.0.k other.0.k (inl c)) ∙ k.0.sees.partner in
-            let to_true : pointwise nat_eq o.base.to from ≡ true = (bytes_decides o.base.to from).1 to in
-            deaf reference o t sum read target there match address (λ i. called i && (to_true i && eq-eqb o.base.partner b.own partner_is i))
-
-    bad : o.base.to ≡ from → (o.base.partner ≡ b.own) ⊎ NamedBy (Took t sum) b.own → ⊥
-    bad to (inl partner) = mine to partner
-    bad to (inr names) =
+    -- it does not name that end: its CR alone is in the name of that, and it has no destination
+    unnamed : o.base.to ≡ from → Names b.own t → ⊥
+    unnamed to names =
         let cr : post ≡ cr_from system b r = is_cr t sum read (sym to_is ∙ to) names in
         none-some reference (sym (ap (λ (p : Post). destination_of p.sent.tpdu) cr) ∙ sym read.target ∙ target)
 
+    -- and was not called by it
     moved_apart : AllByRecursion Apart m.tpdus
-    moved_apart =
-        both_of (λ (sent : Sent). IsSentTo from b.own sent → ⊥) (λ (sent : Sent). (a.system ≡ system → Names b.own sent.tpdu → ⊥) × HasSource (seen 0 sent.tpdu)) Apart m.tpdus
-        (λ sent none more. record { refused = λ to_it. absurd (none to_it); named = λ at_it names. absurd (more.0 at_it names); sourced = more.1 })
-        (row_aims going now (times_of o.base.timers) (w.base.end known.k) o (Took t sum) sees stop is.1 sourced known.proper may from b.own bad)
-        (both_of (λ (sent : Sent). a.system ≡ system → Names b.own sent.tpdu → ⊥) (λ (sent : Sent). HasSource (seen 0 sent.tpdu))
-        (λ (sent : Sent). (a.system ≡ system → Names b.own sent.tpdu → ⊥) × HasSource (seen 0 sent.tpdu)) m.tpdus (λ sent one other. (one, other)) (unnamed m.tpdus named)
-        (row_sourced going now (times_of o.base.timers) (w.base.end known.k) o (Took t sum) sees stop is.1 sourced known.proper may
-        ((sound link titles timers w journal old explains).own known.k known.at.low).some))
-      where
-        named : a.system ≡ system → AllByRecursion (λ (sent : Sent). Names b.own sent.tpdu → ⊥) m.tpdus
-        named at_it = row_named going now (times_of o.base.timers) (w.base.end known.k) o (Took t sum) sees stop is.1 sourced known.proper may b.own some
-            (λ same. apart at_it (sym known.at.reference_is ∙ same))
-
-        unnamed : (sents : List Sent) → (a.system ≡ system → AllByRecursion (λ (sent : Sent). Names b.own sent.tpdu → ⊥) sents) → AllByRecursion (λ (sent : Sent). a.system ≡ system → Names b.own sent.tpdu → ⊥) sents
-        unnamed [] all = tt
-        unnamed (sent ∷ sents) all = (λ at_it. (all at_it).0, unnamed sents (λ at_it. (all at_it).1))
+    moved_apart = row_apart link titles timers w journal old explains going system x from N b r h a.system a.entity a.there reference o there (Took t sum) apart
+        (λ called. deaf reference o t sum read target there match called.0 called.1) goes is.1 sourced may unnamed
 
   -- ---- all that waits then
 

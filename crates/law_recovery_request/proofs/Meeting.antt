@@ -1,6 +1,6 @@
 -- What an entity does with what comes, place by place: an end takes it, or a CR makes one at a reference that is free; all others stay as they are.
 use Rattle.std.proofs.Common.{◌≡◌, ◌≢◌, ◌⊎◌, inl, inr, ℕ, suc, ◌+◌, ◌==◌, ◌≤◌, Bool, true, false, List, [], ◌∷◌, ◌||◌, Option, Some, None, refl, sym, ◌∙◌, ap, subst, slice_get}
-use Rattle.std.specs.Prelude.{◌&&◌, if◌then◌else◌, nat_eq, not}
+use Rattle.std.specs.Prelude.{◌&&◌, nat_eq, not}
 use Rattle.std.specs.List.{AllByRecursion, list_any}
 use Rattle.std.specs.Cmp.Lexicographic.{bytes_decides, pointwise}
 use Rattle.std.proofs.lemmas.Bool.{eq-eqb, eqb-false, eqb-true}
@@ -10,7 +10,6 @@ use Rattle.tpdu.specs.declared.tpdu.Tpdu.{Tpdu as WireTpdu}
 use Rattle.tpdu.specs.declared.tpdu.Tpdu.TheVariants as wires
 use Rattle.tp4_number.specs.Number.{whole}
 use Rattle.tp4_number.proofs.Past.{if_kept}
-use Rattle.tp4_flow.specs.declared.step.EndEvent.{EndEvent}
 use Rattle.tp4_flow.specs.declared.step.Sent.{Sent}
 use Rattle.tp4_conn.specs.Agreeing.{extra_of, is_within, number_of, proposed_in, request}
 use Rattle.tp4_conn.specs.CrWait.{cr_wait_tpdu}
@@ -22,7 +21,7 @@ use Rattle.tp4_conn.specs.declared.end_record.EndRecord.{EndRecord}
 use Rattle.tp4_conn.specs.declared.states.InCrWait.{InCrWait}
 use Rattle.tp4_conn.specs.declared.states.StateData.{StateData}
 use Rattle.tp4_conn.specs.declared.states.StateData.TheVariants.{AkWait, Closing, CrWait, Frozen, Opened, UserWait, WaitBeforeClose}
-use Rattle.tp4_entity.specs.Association.{answer, answers, is_called, is_frozen, is_registered, met, met_at, met_by, new_end, refusal, requested, unmatched}
+use Rattle.tp4_entity.specs.Association.{answers, is_called, is_frozen, is_registered, met, new_end, refusal}
 use Rattle.tp4_entity.specs.Entity.{Acted, Entity, end_at, moved}
 use Rattle.tp4_entity.specs.References.{is_free_place, least_free}
 use Rattle.tp4_entity.proofs.PlaceLaws.{end_there}
@@ -35,7 +34,8 @@ use Rattle.tp4_world.specs.Telling.{ends_after}
 use Rattle.tp4_world.specs.declared.place.EndAt.{EndAt}
 use Rattle.law_tp4_lawful.proofs.MakesPlaces.{at_other, at_same}
 use Rattle.law_recovery_run.specs.Aside.{Names}
-use Rattle.law_recovery_run.proofs.Aside.{both_are, either, kept_place}
+use Rattle.law_recovery_run.proofs.Aside.{both_are, kept_place}
+use Rattle.law_recovery_run.proofs.Meeting.{met_cases}
 use Rattle.law_recovery_request.specs.Requesting.{IsPast, IsReason, IsUnanswered, in_cr_wait}
 
 -- ---- what an entity does
@@ -60,78 +60,12 @@ pub data IsMet (Read : WireTpdu → Bool → Type 0) (now : ℕ) (e : Entity) (f
   Makes : (reference : ℕ) (base : EndRecord) (octets : List ℕ) → Free now reference e → base.own ≡ reference → acted ≡ moved e reference (indicated base octets) → IsMet Read now e from acted
 
 module _ (Read : WireTpdu → Bool → Type 0) (now : ℕ) (e : Entity) (from : List ℕ) (t : WireTpdu) (sum : Bool) (read : Read t sum) where
-  abbrev Is : Acted → Type 0
-  Is acted = IsMet Read now e from acted
-
-  refused : (source reason : ℕ) → Names source t → IsAnswerTo Read from (refusal from source reason)
-  refused source reason names = record {
-    t = t;
-    sum = sum;
-    read = read;
-    to = refl;
-    source = source;
-    target = refl;
-    names = names;
-    unnamed = λ reference some is. some (sym is);
-    sourced = λ kind. absurd (cc kind);
-  }
-
-  done : (destination source : ℕ) → Names source t → IsAnswerTo Read from (answer from (wires.Dc source destination))
-  done destination source names = record {
-    t = t;
-    sum = sum;
-    read = read;
-    to = refl;
-    source = source;
-    target = refl;
-    names = names;
-    unnamed = λ reference some is. is;
-    sourced = λ kind. absurd (cc kind);
-  }
-
-  by_source : (events : List EndEvent) (destination source : ℕ) (b : Bool) → ((ends : List EndAt) (system : ℕ) → ends_after ends system events ≡ ends) → Names source t
-      → Is (record { entity = e; events = events; tpdus = if b then [] else answer from (wires.Dc source destination) ∷ [] })
-  by_source events destination source true none names = Stays refl none tt
-  by_source events destination source false none names = Stays refl none (done destination source names, tt)
-
-  aside_of : (u : WireTpdu) → u ≡ t → Is (unmatched e from u)
-  aside_of (wires.Cc credit destination source width calling called size preferred extra version classes ack_time text) is =
-      Stays refl (λ ends system. refl) (refused source 132 (subst (Names source) is refl), tt)
-  aside_of (wires.Dr destination source reason info text) is = by_source _ destination source (source == 0) (λ ends system. refl) (subst (Names source) is refl)
-  aside_of other is = Stays refl (λ ends system. refl) tt
-
-  by_match : (reference : ℕ) (o : End) (b : Bool) → destination_of t ≡ Some reference → end_at e reference ≡ Some o → is_match o.base o.stage from t ≡ b
-      → Is (if b then moved e reference (stepped whole now o (Took t sum)) else unmatched e from t)
-  by_match reference o true target stands match = Takes t sum reference o read target stands match refl
-  by_match reference o false target stands match = aside_of t refl
-
-  by_place : (reference : ℕ) (place : Option End) → destination_of t ≡ Some reference → end_at e reference ≡ place → Is (met_by whole now e from (t, sum) reference place)
-  by_place reference None target stands = aside_of t refl
-  by_place reference (Some o) target stands = by_match reference o (is_match o.base o.stage from t) target stands refl
-
-  by_destination : (target : Option ℕ) → destination_of t ≡ target → Is (met_at whole now e from (t, sum) target)
-  by_destination None is = aside_of t refl
-  by_destination (Some reference) is = by_place reference (end_at e reference) is refl
-
-  made : (source : ℕ) (u : WireTpdu) (free : Option ℕ) → least_free now e ≡ free → Names source t → Is (new_end now e from source u free)
-  made source u None is names = Stays refl (λ ends system. refl) (refused source 129 names, tt)
-  made source (wires.Cr credit from_reference width calling called size preferred extra version classes ack_time text) (Some reference) is names =
-      Makes reference (called_end now reference from e.timers credit from_reference calling called (proposed_in width size preferred extra)) text (free_least now reference e is) refl refl
-  made source u (Some reference) is names = Stays refl (λ ends system. refl) tt
-
-  asked : (source : ℕ) (called : List ℕ) (u : WireTpdu) → Names source t → Is (requested now e from source called u)
-  asked source called u names =
-      either Is (list_any (is_called false from source) e.ends) _ _ (Stays refl (λ ends system. refl) tt)
-      (either Is (list_any (is_called true from source) e.ends) _ _ (Stays refl (λ ends system. refl) (refused source 131 names, tt))
-      (either Is (not (is_registered e.selectors called)) _ _ (Stays refl (λ ends system. refl) (refused source 3 names, tt)) (made source u (least_free now e) refl names)))
-
-  by_kind : (u : WireTpdu) → u ≡ t → Is (met whole now e from (u, sum))
-  by_kind (wires.Cr credit source width calling called size preferred extra version classes ack_time text) is =
-      asked source called (wires.Cr credit source width calling called size preferred extra version classes ack_time text) (subst (Names source) is refl)
-  by_kind u is = subst (λ (u : WireTpdu). Is (met_at whole now e from (u, sum) (destination_of u))) (sym is) (by_destination (destination_of t) refl)
-
   pub met_is : IsMet Read now e from (met whole now e from (t, sum))
-  met_is = by_kind t refl
+  met_is = met_cases now e from t sum (IsMet Read now e from)
+      (λ events none. Stays refl none.ends tt)
+      (λ events sent none a. Stays refl none.ends (record { t = t; sum = sum; read = read; to = a.to; source = a.source; target = a.target; names = a.names; unnamed = a.unnamed; sourced = a.sourced }, tt))
+      (λ reference o target stands match. Takes t sum reference o read target stands match refl)
+      (λ reference base octets free own. Makes reference base octets free own refl)
 
 -- ---- its places
 

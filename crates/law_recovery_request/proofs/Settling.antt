@@ -1,12 +1,12 @@
 -- A settle, delivery after delivery: the CR of an end in CrWait makes its called end, or a DR comes back, whatever else waits.
-use Rattle.std.proofs.Common.{◌≡◌, ◌⊎◌, inl, inr, ℕ, ◌+◌, List, [], ◌∷◌, ◌++◌, true, false, Some, None, refl, sym, ◌∙◌, ap, subst, append_assoc}
+use Rattle.std.proofs.Common.{◌≡◌, ◌⊎◌, inl, inr, ℕ, ◌+◌, List, [], ◌∷◌, ◌++◌, true, false, Some, refl, sym, ◌∙◌, ap, subst, append_assoc}
 use Rattle.std.specs.List.{AllByRecursion, Contains}
 use Rattle.osi_base.specs.Calls.{Call, Keeps}
 use Rattle.osi_base.specs.Link.{IsLeastFresh, Link}
 use Rattle.osi_base.specs.declared.unit.Picked.TheVariants.{Taken as WasPicked}
 use Rattle.osi_base.specs.declared.unit.Unit.{Unit as CarriedUnit}
 use Rattle.net_world.specs.Fifo.{IsFifo}
-use Rattle.script_journal.specs.Lawful.{ArePartners}
+use Rattle.script_journal.specs.Partner.{ArePartners}
 use Rattle.script_journal.specs.declared.event.Event.{Event}
 use Rattle.std.proofs.lemmas.Bool.{eqb-true}
 use Rattle.std.proofs.lemmas.Option.{same_Some}
@@ -20,23 +20,15 @@ use Rattle.tp4_conn.specs.declared.states.InCrWait.{InCrWait}
 use Rattle.tp4_conn.specs.declared.timers.Timers.{Timers}
 use Rattle.tp4_entity.specs.Association.{refusal}
 use Rattle.tp4_entity.specs.Entity.{Entity, end_at}
-use Rattle.tp4_entity.specs.References.{is_silent}
-use Rattle.tp4_entity.specs.Step.{first_due}
+use Rattle.tp4_entity.specs.Silence.{is_silent}
 use Rattle.law_tp4_moves.specs.Moves.{stop_of}
 use Rattle.law_tp4_pair.specs.Claim.{IsUndropped}
-use Rattle.law_tp4_proper.specs.Rest.{AreInTime, AreProper}
 use Rattle.tp4_world.specs.Run.{Delivers, NoneLeft, OneMore, Settles, TooMany}
 use Rattle.tp4_world.specs.World.{World, entity_at, latest}
 use Rattle.tp4_world.specs.declared.place.Placed.{Placed}
-use Rattle.law_tp4_lawful.proofs.Along.{AreAtRest}
-use Rattle.law_tp4_lawful.proofs.Known.{IsOffered, Known}
 use Rattle.law_tp4_lawful.proofs.ReferencesHalves.{known_at}
 use Rattle.law_tp4_lawful.proofs.ReferencesLater.{partners_on}
-use Rattle.law_tp4_lawful.proofs.WorldHears as hears
-use Rattle.law_tp4_lawful.proofs.WorldKnown.{plain_kept}
-use Rattle.law_tp4_lawful.proofs.WorldOutcomes.{one_unit, outcomes}
 use Rattle.law_tp4_lawful.proofs.Worlds.{Followed}
-use Rattle.law_tp4_ended.proofs.Worlds as ended
 use Rattle.law_calm_run.proofs.Hall.{Hall, Post, after}
 use Rattle.law_calm_run.proofs.Posting.{AreUnitsOf}
 use Rattle.law_calm_run.proofs.Queueing.{all_parts}
@@ -46,9 +38,9 @@ use Rattle.law_recovery_run.proofs.Aside.{both_are}
 use Rattle.law_recovery_run.proofs.Rivals.{no_rival}
 use Rattle.law_recovery_walk.specs.Following.{Stands}
 use Rattle.law_recovery_walk.proofs.Coming.{StandsSo, delivered}
-use Rattle.law_recovery_walk.proofs.Settling.{IsExplained}
+use Rattle.law_recovery_walk.proofs.Settling.{IsExplained, explained_on, timed as timed_by}
 use Rattle.law_recovery_request.specs.Requesting.{AreListening, AreUnanswered, HasTaken, IsAnswered, IsApart, IsIndicated, IsRefusal, cr_from, in_cr_wait}
-use Rattle.law_recovery_request.proofs.Coming.{Asking, IsHere, IsPending, IsUnsettled, IsWaiting, Refusing, Waiting, listens_on, none_there, refusal_of}
+use Rattle.law_recovery_request.proofs.Coming.{Asking, IsHere, IsPending, IsUnsettled, IsWaiting, Refusing, Waiting, here_same, listens_on, none_there, refusal_of, waiting_same}
 use Rattle.law_recovery_request.proofs.Keeping.{IsKeptApart, unsettled_so}
 
 -- ---- where nothing waits
@@ -130,33 +122,15 @@ module _ {C : Type 0} (link : C → Link (List ℕ)) (steps : C → Call (List �
   abbrev IsBeside : List Post → Type 0
   IsBeside posts = P → AllByRecursion (IsKeptApart system from Any b r) posts
 
-  -- the timers of an end that stands are those of the network
+  -- the timers of the end that asked are those of the network
   timed : (journal : List Event) (world : World C) (ex : IsExplained link journal world) → IsHere system x from Any b r world → IsTimed ex.timers
-  timed journal world ex h =
-      let known = known_at link ex.titles ex.timers ex.w journal world ex.explains x system h.entity b.own (in_cr_wait b r) (record { there = h.there; stands = h.stands; number = h.number }) in
-      subst IsTimed ((ex.explains.known.holds system h.entity h.there).theirs b.own (in_cr_wait b r) h.stands) known.0.sees.timers
-
-  explained_on : (old new : World C) (journal made : List Event) (hall : Hall) (queue : List (CarriedUnit (List ℕ))) (pair : ℕ × ℕ) → StandsSo link steps law titles Waits fifo old hall queue
-      → (ex : IsExplained link journal old) → IsTimed ex.timers → Delivers link steps whole old pair.0 pair.1 WasPicked made new → IsExplained link (journal ++ made) new
-  explained_on old new journal made hall queue pair s ex is_timed d =
-      let f : Followed ex.titles ex.timers = followed ex.titles ex.timers in
-      let rested : AreAtRest AreProper ex.w.base.clock old.entities = λ place e is.
-      let there : entity_at hall.entities place ≡ Some e = ap (λ (ps : List Placed). entity_at ps place) (sym s.shows.entities) ∙ is in
-      ((s.kept place e there).proper, subst (λ (n : ℕ). first_due n e ≡ None) (sym s.shows.clock ∙ ex.explains.carries.clock) (s.rest place e there)) in
-      let ran = hears.delivered ex.titles ex.timers (Known ex.titles ex.timers) IsOffered (plain_kept ex.titles ex.timers) is_timed link steps law f.aside f.meets one_unit AreProper AreInTime outcomes ex.w old new journal made
-      pair.0 pair.1 WasPicked ex.explains rested d in
-      record { titles = ex.titles; timers = ex.timers; w = ran.went.next; explains = ran.went.explains; fit = (ended.delivered link steps law whole old new made pair.0 pair.1 WasPicked ex.fit d).fit }
+  timed journal world ex h = timed_by link steps law titles Waits fifo going followed journal world ex x (in_cr_wait b r)
+      (record { system = system; reference = b.own; entity = h.entity; is_end = record { there = h.there; stands = h.stands; number = h.number } })
 
   -- where nothing came to an entity
   unsettled_still : (old new : World C) (posts : List Post) → new.entities ≡ old.entities → new.ends ≡ old.ends → IsUnsettledSo old posts → IsUnsettledSo new posts
   unsettled_still old new posts entities ends o = record {
-    here = record {
-      entity = o.here.entity;
-      there = ap (λ (ps : List Placed). entity_at ps system) entities ∙ o.here.there;
-      own_is = o.here.own_is;
-      stands = o.here.stands;
-      number = (λ i. latest (ends i) system b.own) ∙ o.here.number;
-    };
+    here = here_same system x from Any b r old new entities ends o.here;
     unanswered = λ s own z f there. o.unanswered s own z f (ap (λ (ps : List Placed). entity_at ps s) (sym entities) ∙ there);
     pending = by o.pending;
   }
@@ -172,18 +146,7 @@ module _ {C : Type 0} (link : C → Link (List ℕ)) (steps : C → Call (List �
         is_reason = d.is_reason;
         waits = d.waits;
       })
-      by (Waiting d) = Waiting (record {
-        at_system = d.at_system;
-        own = d.own;
-        entity = d.entity;
-        end = d.end;
-        since = d.since;
-        there = ap (λ (ps : List Placed). entity_at ps d.at_system) entities ∙ d.there;
-        own_is = d.own_is;
-        stands = d.stands;
-        stage = d.stage;
-        called = d.called;
-      })
+      by (Waiting d) = Waiting (waiting_same system x from Any b r old new entities d)
 
   -- one delivery
   record HasGone (mid : World C) : Type 0 where
@@ -238,7 +201,7 @@ module _ {C : Type 0} (link : C → Link (List ℕ)) (steps : C → Call (List �
       absurd (subst (λ (es : List Event). AllByRecursion IsUndropped es) made_is all).0
   settles_on count old made new (OneMore n o m l pair mid here rest fresh low delivers settles made_is) journal hall queue s ex all unsettled listens beside =
       let parts = all_parts IsUndropped here rest (subst (λ (es : List Event). AllByRecursion IsUndropped es) made_is all) in
-      let ex_mid : IsExplained link (journal ++ here) mid = explained_on old mid journal here hall queue pair s ex (timed journal old ex unsettled.here) delivers in
+      let ex_mid : IsExplained link (journal ++ here) mid = explained_on link steps law titles Waits fifo going followed old mid journal here hall queue pair s ex (timed journal old ex unsettled.here) delivers in
       elim (one_goes old mid journal here hall queue pair s fresh ex parts.0 listens unsettled beside delivers) [
         | inl went ↦ elim (settles_on (count + 1) mid rest new settles (journal ++ here) went.hall went.queue went.stands ex_mid parts.1 went.unsettled went.listens went.beside) [
           | inl done ↦ inl (subst (λ (es : List Event). IsIndicated es new x b r) (append_assoc journal here rest ∙ ap (λ (es : List Event). journal ++ es) (sym made_is)) done)

@@ -31,16 +31,17 @@ use Rattle.tp4_entity.specs.References.{least_free}
 use Rattle.tp4_entity.specs.Step.{connect_refusal, user_refusal}
 use Rattle.tp4_entity.specs.declared.refusal.ConnectRefusal.{ConnectRefusal}
 use Rattle.tp4_entity.specs.declared.refusal.EntityRefusal.{EntityRefusal}
-use Rattle.law_tp4_pair.specs.Calm.{IsSettledScript, Settles as IsSettledNext}
+use Rattle.law_tp4_pair.specs.CalmScript.{IsSettledScript, Settles as IsSettledNext}
 use Rattle.law_tp4_pair.specs.Claim.{IsUndropped}
-use Rattle.tp4_world.specs.Run.{Acts, Arrives, BeginsAt, Calls, CallsAt, CallsBy, CallsEnd, Connects, ConnectsBy, HearsAll, HearsIf, IsRefused, NoneDue, NoneLeft, OneDue, OneMore, RunsLine, RunsLines, SendsRaw, SendsTpdu, SendsTpdus, Settles, Ticks, TicksAll, TicksEntity, TooMany, has_ended, is_for}
+use Rattle.tp4_world.specs.Run.{Acts, Arrives, BeginsAt, Calls, CallsAt, CallsBy, CallsEnd, Connects, ConnectsBy, HearsAll, HearsIf, IsRefused, NoneDue, NoneLeft, OneDue, OneMore, RunsLine, RunsLines, SendsRaw, SendsTpdu, SendsTpdus, Settles, Ticks, TicksAll, TicksEntity, TooMany, is_for}
+use Rattle.tp4_world.specs.Ended.{has_ended}
 use Rattle.tp4_world.specs.Telling.{call_events, drop_events, events_after, told_connect, told_refusal}
 use Rattle.tp4_world.specs.World.{World, end_numbered, entity_at}
 use Rattle.tp4_world.specs.declared.place.EndAt.{EndAt}
 use Rattle.tp4_world.specs.declared.place.Placed.{Placed}
 use Rattle.law_calm_run.proofs.Queueing.{all_parts}
 use Rattle.law_recovery_run.specs.Ordered.{InOrder, MayCome}
-use Rattle.law_recovery_run.specs.Run.{IsKept}
+use Rattle.law_recovery_run.specs.Losses.{IsKept}
 
 -- ---- what comes up
 

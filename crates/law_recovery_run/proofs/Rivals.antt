@@ -1,15 +1,16 @@
 -- An end that is not frozen is named as its partner by its one partner alone: an older end of its reference froze so long ago that whatever was for that one froze too.
-use Rattle.std.proofs.Common.{◌≡◌, ◌≢◌, inl, inr, ℕ, ◌+◌, ◌<◌, List, None, sym, ◌∙◌, subst, arith}
+use Rattle.std.proofs.Common.{◌≡◌, ◌≢◌, inl, inr, ℕ, ◌+◌, ◌<◌, List, None, sym, ◌∙◌, ap, subst, arith}
 use Rattle.std.proofs.lemmas.Bool.{cases_order}
 use Rattle.std.proofs.lemmas.Option.{none-some}
 use Rattle.osi_base.specs.Link.{Link}
-use Rattle.script_journal.specs.Lawful.{ArePartners}
+use Rattle.script_journal.specs.Partner.{ArePartners}
 use Rattle.script_journal.specs.declared.event.Event.{Event}
 use Rattle.tp4_conn.specs.declared.timers.Timers.{Timers}
 use Rattle.law_tp4_history.specs.Ends.{Times}
 use Rattle.law_tp4_history.specs.History.{IsPartner}
 use Rattle.law_tp4_history.specs.Tracks.{Whole}
-use Rattle.law_tp4_history.proofs.Sound.{OwnFacts, Sound, partner_address, partner_low}
+use Rattle.law_tp4_history.proofs.Meets.{swap}
+use Rattle.law_tp4_history.proofs.Sound.{OwnFacts, Sound, one_partner, partner_address, partner_low}
 use Rattle.law_tp4_history.proofs.Written.{Kept}
 use Rattle.law_tp4_moves.specs.Moves.{times_of}
 use Rattle.tp4_world.specs.World.{World}
@@ -104,3 +105,14 @@ module _ {C : Type 0} (link : C → Link (List ℕ)) (titles : List (List ℕ)) 
     no_rival =
         subst (λ (n : ℕ). ArePartners journal n y) here.1
         (subst (λ (n : ℕ). ArePartners journal (k + 1) n) there.1 (partners_are link titles timers w journal last explains one_unit k j partner_there))
+
+  -- two ends that are for the same one have the same reference
+  pub one_rival : (x z y : ℕ) (theirs : IsGoing last y) (mine : IsFor last x theirs.entity.own theirs.reference) (rival : IsFor last z theirs.entity.own theirs.reference) → rival.going.reference ≡ mine.going.reference
+  one_rival x z y theirs mine rival =
+      let one = partner_there x y theirs mine in
+      let two = partner_there z y theirs rival in
+      let k = (here x y theirs mine).0 in
+      let k_other = (here z y theirs rival).0 in
+      let j = (far y theirs).0.k in
+      let same : k_other.k ≡ k.k = one_partner times w.base sound j k_other.k k.k (swap w.base k_other.k j two) (swap w.base k.k j one) in
+      sym k_other.at.reference_is ∙ ap (λ (n : ℕ). (w.base.end n).birth.reference) same ∙ k.at.reference_is

@@ -1,5 +1,6 @@
 pub mod Aside
 pub mod Laws
+pub mod Losses
 pub mod Ordered
 pub mod Rivals
 pub mod Run

@@ -12,7 +12,7 @@ use Rattle.net_world.specs.Run.{Passes}
 use Rattle.osi_base.specs.declared.unit.Up.{Up}
 use Rattle.script_journal.specs.declared.event.Event.{Event}
 use Rattle.script_lines.specs.declared.line.Line.{Line}
-use Rattle.law_tp4_pair.specs.Calm.{IsSettledScript}
+use Rattle.law_tp4_pair.specs.CalmScript.{IsSettledScript}
 use Rattle.tp4_number.specs.Number.{whole}
 use Rattle.tp4_world.specs.Run.{RunsLines}
 use Rattle.tp4_world.specs.World.{World}
@@ -21,7 +21,7 @@ use Rattle.law_calm_run.specs.Run.{HaveEntities, IsUnrouted}
 use Rattle.law_calm_run.specs.Service.{WaitsBy}
 use Rattle.law_calm_run.proofs.Hall.{AreWaiting, Goes, Hall}
 use Rattle.law_calm_run.proofs.Posting.{AreKept, IsHall}
-use Rattle.law_recovery_run.specs.Run.{IsKept}
+use Rattle.law_recovery_run.specs.Losses.{IsKept}
 
 -- ---- the carrier
 

@@ -1,6 +1,6 @@
 -- Two partner ends of a network that go on, and the other ends of their systems: none of these is for the same end (X.224, class 4: association of TPDUs with connections; frozen references).
 use Rattle.std.specs.Prelude.{◌≡◌, ℕ, List, None}
-use Rattle.script_journal.specs.Lawful.{ArePartners}
+use Rattle.script_journal.specs.Partner.{ArePartners}
 use Rattle.script_journal.specs.declared.event.Event.{Event}
 use Rattle.tp4_conn.specs.End.{End}
 use Rattle.tp4_entity.specs.Entity.{Entity}

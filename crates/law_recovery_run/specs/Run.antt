@@ -4,19 +4,16 @@ use Rattle.std.specs.Prelude.{◌≡◌, ℕ, List, ◌∷◌, ◌++◌, None}
 use Rattle.std.specs.List.{AllByRecursion}
 use Rattle.osi_base.specs.Calls.{Call}
 use Rattle.osi_base.specs.Link.{Link, IsLeastFresh}
-use Rattle.osi_base.specs.declared.note.Note.TheVariants as notes
-use Rattle.net_world.specs.Prompt.{IsRefusal}
 use Rattle.script_journal.specs.declared.event.Event.{Event}
-use Rattle.script_journal.specs.declared.event.Event.TheVariants as events
 use Rattle.script_lines.specs.Injecting.{HasNoInject}
 use Rattle.script_lines.specs.declared.line.Line.{Line}
 use Rattle.script_lines.specs.declared.line.Line.TheVariants as lines
-use Rattle.law_tp4_pair.specs.Calm.{IsSettledScript}
-use Rattle.law_tp4_pair.specs.Claim.{IsUndropped}
+use Rattle.law_tp4_pair.specs.CalmScript.{IsSettledScript}
 use Rattle.tp4_world.specs.Run.{RunsLine, RunsLines}
 use Rattle.tp4_world.specs.World.{World}
 use Rattle.law_tp4_lawful.specs.Limits.{IsProperLine}
 use Rattle.law_calm_run.specs.Run.{IsUnrouted}
+use Rattle.law_recovery_run.specs.Losses.{IsKept}
 
 -- from a `settle` on each line that does anything is settled; before it anything goes, but an `inject` line
 pub record Recovers (script : List Line) : Type 0 where
@@ -25,11 +22,6 @@ pub record Recovers (script : List Line) : Type 0 where
   pub script_is : script ≡ before ++ lines.Settle ∷ after
   pub no_inject : HasNoInject before
   pub settled : IsSettledScript after
-
--- nothing was dropped, no settling stopped at its number, and no segment was refused for want of room
-abbrev pub IsKept : Event → Type 0
-IsKept (events.Net (notes.Discard system reason place)) = IsRefusal reason place → ⊥
-IsKept event = IsUndropped event
 
 -- A run of which the second part recovers: the network after the `settle`, which left nothing to deliver, and now; the events up to that `settle`, and those since. `wrap` is what a
 -- receiving half keeps of a number, by its block

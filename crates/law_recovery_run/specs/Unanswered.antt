@@ -5,7 +5,7 @@ use Rattle.tp4_conn.specs.Matching.{is_called_by}
 use Rattle.tp4_conn.specs.declared.states.StateData.{StateData}
 use Rattle.tp4_conn.specs.declared.states.StateData.TheVariants.{Frozen, UserWait}
 use Rattle.tp4_entity.specs.Entity.{Entity, end_at}
-use Rattle.tp4_entity.specs.References.{is_silent}
+use Rattle.tp4_entity.specs.Silence.{is_silent}
 use Rattle.tp4_world.specs.World.{World, entity_at}
 
 -- the user of a called end has not answered, or the end is frozen

@@ -1,5 +1,6 @@
 pub mod Asking
 pub mod Clocks
+pub mod Deeds
 pub mod Lasting
 pub mod Lines
 pub mod Numbers

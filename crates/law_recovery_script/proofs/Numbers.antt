@@ -19,17 +19,21 @@ use Rattle.law_recovery_walk.specs.Following.{Stands}
 use Rattle.law_recovery_service.specs.Over.{HasLeftEnd}
 use Rattle.law_recovery_script.proofs.Outlasting.{made_so}
 
-pub left_over : {C : Type 0} (last : World C) (x : ℕ) → HasLeftEnd last x → (e : End) (o : InOpened) → end_at_number last x ≡ Some e → e.stage ≡ Opened o → ⊥
-left_over {C} last x h e o at opened = by_number (latest last.ends h.system h.reference == x) refl (sym (ap (end_placed last x) h.at.made) ∙ at)
+-- an end that has left, by its number
+pub left_by_number : {C : Type 0} (last : World C) (x : ℕ) → HasLeftEnd last x → (e : End) → end_at_number last x ≡ Some e → HasLeft e.stage
+left_by_number {C} last x h e at = by_number (latest last.ends h.system h.reference == x) refl (sym (ap (end_placed last x) h.at.made) ∙ at)
   where
-    by_entity : (place : Option Entity) → entity_at last.entities h.system ≡ place → latest last.ends h.system h.reference ≡ x → option_and_then (λ (z : Entity). end_at z h.reference) place ≡ Some e → ⊥
-    by_entity None there number is = none-some e is
-    by_entity (Some entity) there number is = subst HasLeft opened (h.at.left entity e there is number)
+    by_entity : (place : Option Entity) → entity_at last.entities h.system ≡ place → latest last.ends h.system h.reference ≡ x → option_and_then (λ (z : Entity). end_at z h.reference) place ≡ Some e → HasLeft e.stage
+    by_entity None there number is = absurd (none-some e is)
+    by_entity (Some entity) there number is = h.at.left entity e there is number
 
     by_number : (b : Bool) → (latest last.ends h.system h.reference == x) ≡ b
-        → (if b then option_and_then (λ (z : Entity). end_at z h.reference) (entity_at last.entities h.system) else None) ≡ Some e → ⊥
+        → (if b then option_and_then (λ (z : Entity). end_at z h.reference) (entity_at last.entities h.system) else None) ≡ Some e → HasLeft e.stage
     by_number true same is = by_entity (entity_at last.entities h.system) refl (eqb-true (latest last.ends h.system h.reference) x same) is
-    by_number false same is = none-some e is
+    by_number false same is = absurd (none-some e is)
+
+pub left_over : {C : Type 0} (last : World C) (x : ℕ) → HasLeftEnd last x → (e : End) (o : InOpened) → end_at_number last x ≡ Some e → e.stage ≡ Opened o → ⊥
+left_over {C} last x h e o at opened = subst HasLeft opened (left_by_number last x h e at)
 
 pub stands_at : {C : Type 0} (link : C → Link (List ℕ)) (titles : List (List ℕ)) (timers : Timers) (w : Whole) (journal : List Event) (last : World C) → Explains link titles timers w journal last
     → (x : ℕ) (e : End) → Stands last x e → end_at_number last x ≡ Some e

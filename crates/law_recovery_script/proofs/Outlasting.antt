@@ -53,7 +53,8 @@ slice_within [] k one more is = absurd cc
 slice_within (first ∷ ends) zero one more is = is
 slice_within (first ∷ ends) (suc k) one more is = slice_within ends k one more is
 
-at_suc : (ends : List EndAt) (k : ℕ) → end_numbered ends (suc k) ≡ slice_get ends k
+-- the end of a number that is not 0
+pub at_suc : (ends : List EndAt) (k : ℕ) → end_numbered ends (suc k) ≡ slice_get ends k
 at_suc ends k = ap (λ (b : Bool). if b then None else slice_get ends (suc k - 1)) (eqb-suc-zero k) ∙ ap (slice_get ends) (omega arith)
 
 numbered_on : (ends : List EndAt) (x : ℕ) (one more : EndAt) → end_numbered ends x ≡ Some one → end_numbered (ends ++ more ∷ []) x ≡ Some one

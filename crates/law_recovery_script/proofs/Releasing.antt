@@ -7,12 +7,12 @@ use Rattle.tp4_number.specs.Number.{whole}
 use Rattle.tp4_number.specs.declared.got.Got.{Got}
 use Rattle.tp4_number.specs.declared.got.Got.TheVariants.{TooLarge}
 use Rattle.tp4_number.specs.declared.piece.Piece.{Piece}
-use Rattle.tp4_flow.specs.Half.{Half, Received, dt_arrival, ea, half_after, half_granted, is_before, is_next, taken_dt, taken_ed}
+use Rattle.tp4_flow.specs.ReceivingHalf.{Half, Received, dt_arrival, ea, half_after, half_granted, is_before, is_next, taken_dt, taken_ed}
 use Rattle.tp4_flow.specs.declared.rules.FlowRules.{FlowRules}
 use Rattle.tp4_flow.specs.declared.rules.Life.{Life}
 use Rattle.tp4_flow.specs.declared.rules.Life.TheVariants.{Goes, Exhausted as Spent}
 use Rattle.tp4_flow.specs.declared.step.Sent.{Sent}
-use Rattle.tp4_sending.specs.FlowSender.{Sendings, at, life_of, ticked}
+use Rattle.tp4_sending.specs.SendingHalf.{Sendings, at, life_of, ticked}
 use Rattle.tp4_conn.specs.Closing.{closing_tick, closing_tpdu}
 use Rattle.tp4_conn.specs.End.{End, Moved, end_of, span}
 use Rattle.tp4_conn.specs.Matching.{wants_sum}

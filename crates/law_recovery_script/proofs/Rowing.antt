@@ -35,7 +35,7 @@ use Rattle.law_recovery_run.proofs.Rivals.{far, here, partner_there, sound}
 use Rattle.law_recovery_walk.proofs.Leaving.{Leaves}
 use Rattle.law_recovery_walk.proofs.Naming.{NamedBy, row_aims, row_named, row_sourced}
 
-frozen_of : (stage : StateData) (when : ℕ) → stop_of stage ≡ Some when → stage ≡ stages.Frozen when
+pub frozen_of : (stage : StateData) (when : ℕ) → stop_of stage ≡ Some when → stage ≡ stages.Frozen when
 frozen_of (stages.Frozen at) when is = ap (λ (n : ℕ). stages.Frozen n) (same_Some at when is)
 frozen_of other when is = absurd (none-some when is)
 

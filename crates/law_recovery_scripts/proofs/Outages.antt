@@ -25,10 +25,10 @@ use Rattle.script_setup.specs.SetUp.{SetUp, timers_of, titles_of as titles_said}
 use Rattle.script_setup.proofs.Entities.{are_timed}
 use Rattle.tp4_conn.specs.declared.timers.Timers.{Timers}
 use Rattle.tp4_number.specs.Number.{whole, wire}
-use Rattle.law_tp4_pair.specs.Calm.{IsSettledScript}
+use Rattle.law_tp4_pair.specs.CalmScript.{IsSettledScript}
 use Rattle.law_tp4_pair.specs.Claim.{IsUndropped}
 use Rattle.law_calm_run.proofs.Queueing.{all_parts, none_dropped}
-use Rattle.law_recovery_run.specs.Run.{IsKept}
+use Rattle.law_recovery_run.specs.Losses.{IsKept}
 use Rattle.law_recovery_run.proofs.Going.{has_gone}
 use Rattle.law_recovery_run.proofs.Ordered.{undropped}
 use Rattle.law_recovery_outage.specs.Laws.{OutagesOnWire, RecoveringIsKept}

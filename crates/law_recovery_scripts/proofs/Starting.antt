@@ -12,7 +12,7 @@ use Rattle.script_setup.specs.SetUp.{SetUp, nothing_said, timers_of, titles_of a
 use Rattle.tp4_conn.specs.declared.timers.Timers.{Timers}
 use Rattle.tp4_number.specs.Number.{wire}
 use Rattle.tp4_world.specs.Run.{RunsLines}
-use Rattle.law_tp4_pair.specs.Calm.{IsOneLan}
+use Rattle.law_tp4_pair.specs.CalmScript.{IsOneLan}
 use Rattle.law_tp4_lawful.specs.Limits.{IsProperLine}
 use Rattle.law_calm_run.specs.Run.{IsUnrouted}
 use Rattle.law_setup.proofs.Proper.{script_proper}

@@ -1,8 +1,8 @@
 -- What two ends that were Opened and up to date before an outage come to, where it is short (X.214, queue model of the transport service; X.224, class 4: retransmission on time-out, inactivity
 -- control).
-use Rattle.std.specs.Prelude.{◌≡◌, ◌<◌, ◌≤◌, ℕ, ◌+◌, ◌*◌, List, ◌++◌, Some}
+use Rattle.std.specs.Prelude.{◌≡◌, ℕ, ◌+◌, List, ◌++◌, Some}
 use Rattle.osi_base.specs.Link.{Link}
-use Rattle.script_journal.specs.Lawful.{AreEnds}
+use Rattle.script_journal.specs.Partner.{AreEnds}
 use Rattle.script_journal.specs.declared.event.Event.{Event}
 use Rattle.tp4_conn.specs.End.{End}
 use Rattle.tp4_conn.specs.declared.states.InOpened.{InOpened}
@@ -14,11 +14,7 @@ use Rattle.law_calm_run.specs.Service.{end_at_number}
 use Rattle.law_recovery_service.specs.Recovered.{AreBack}
 use Rattle.law_recovery_service.specs.Alone.{IsLeftAlone}
 use Rattle.law_recovery_tries.specs.UpToDate.{IsUpToDate}
-
--- the outage from tick s to tick t0 is short: less than (N - 1) T1 ticks, and no more than I less 2 W
-pub record IsShort (t : Timers) (s t0 : ℕ) : Type 0 where
-  pub tries : t0 + t.t1 < s + t.sendings * t.t1
-  pub idle : t0 + 2 * t.window ≤ s + t.inactive
+use Rattle.law_recovery_service.specs.ShortOutage.{IsShort}
 
 -- Each two partners that were Opened and up to date at tick s, where the outage was short, and neither their users disconnect nor their systems begin again: both are Opened still, and from
 -- t0 + max(T1, W) on each has shown what the other submitted, but for want of credit or for a number that the number rule holds back at this tick

@@ -6,3 +6,4 @@ pub mod Laws
 pub mod Over
 pub mod Recovered
 pub mod Service
+pub mod ShortOutage

@@ -3,7 +3,7 @@
 -- any more (X.214, queue model of the transport service; X.224, class 4: retransmission on time-out, explicit flow control, inactivity control).
 use Rattle.std.specs.Prelude.{◌≡◌, ◌⊎◌, ◌≤◌, ℕ, ◌+◌, max, List, [], ◌∷◌, ◌++◌, Some, Contains}
 use Rattle.osi_base.specs.Link.{Link}
-use Rattle.script_journal.specs.Lawful.{AreEnds}
+use Rattle.script_journal.specs.Partner.{AreEnds}
 use Rattle.script_journal.specs.RawLawful.{tick_after}
 use Rattle.script_journal.specs.declared.event.Event.{Event}
 use Rattle.script_journal.specs.declared.event.Event.TheVariants as events

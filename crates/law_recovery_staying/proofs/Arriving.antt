@@ -1,6 +1,5 @@
 -- What comes to an Opened end whose partner is Opened is no DR and no ER, no DT that makes a unit too large, and no ED where expedited data is not agreed, whatever was lost and reordered.
-use Rattle.std.proofs.Common.{◌≡◌, ◌≢◌, inl, inr, ℕ, ◌+◌, ◌≤◌, ◌&&◌, Bool, true, false, List, [], ◌∷◌, ◌++◌, length, Option, Some, Contains, refl, sym, ◌∙◌, ap, subst, arith}
-use Rattle.std.specs.List.{AllByRecursion}
+use Rattle.std.proofs.Common.{◌≡◌, ◌≢◌, inl, inr, ℕ, ◌+◌, ◌≤◌, ◌&&◌, Bool, true, false, List, [], ◌++◌, length, Option, Some, Contains, refl, sym, ◌∙◌, ap, subst, arith}
 use Rattle.std.proofs.lemmas.Bool.{eqb-true}
 use Rattle.osi_base.specs.Link.{Link}
 use Rattle.tpdu.specs.Kinds.{has_number}
@@ -13,9 +12,9 @@ use Rattle.tp4_number.specs.Number.{ahead, wire}
 use Rattle.tp4_number.specs.Receiver.{Inbox, arrived}
 use Rattle.tp4_number.specs.declared.got.Got.TheVariants.{TooLarge}
 use Rattle.tp4_number.specs.declared.piece.Piece.{Piece}
-use Rattle.tp4_flow.specs.Half.{block_in}
+use Rattle.tp4_flow.specs.ReceivingHalf.{block_in}
 use Rattle.tp4_flow.specs.declared.step.Sent.{Sent}
-use Rattle.tp4_sending.specs.FlowSender.{UrgentSender, no_urgent}
+use Rattle.tp4_sending.specs.SendingHalf.{UrgentSender, no_urgent}
 use Rattle.tp4_sending.specs.Kept.{urgent_base}
 use Rattle.tp4_sending.specs.Pieces.{cut_at}
 use Rattle.tp4_conn.specs.declared.states.InOpened.{InOpened}
@@ -26,7 +25,8 @@ use Rattle.tp4_conn.specs.End.{End, agreed_format}
 use Rattle.tp4_conn.specs.Matching.{fits, is_match}
 use Rattle.tp4_conn.specs.Opened.{is_expedited}
 use Rattle.tp4_entity.specs.Entity.{Entity, end_at}
-use Rattle.script_journal.specs.Lawful.{ArePartners, Marked, expediteds, normals, submitted}
+use Rattle.script_journal.specs.Lawful.{Marked, expediteds, normals, submitted}
+use Rattle.script_journal.specs.Partner.{ArePartners}
 use Rattle.script_journal.specs.declared.event.Event.{Event}
 use Rattle.law_tp4_history.specs.Ends.{Body, Dr, Flow, Terms, Tpdu}
 use Rattle.law_tp4_history.specs.History.{IsPartner}
@@ -58,17 +58,10 @@ use Rattle.law_recovery_going.proofs.Fitting.{dts_fit}
 use Rattle.law_recovery_world.specs.Steady.{StageUrges}
 use Rattle.law_recovery_world.proofs.Known.{Known}
 use Rattle.law_recovery_known.proofs.Directions.{far, here as near, partner as partner_of, terms_same, there, there_far}
+use Rattle.law_recovery_known.proofs.Lined.{all_short, none_of}
 use Rattle.law_recovery_tries.specs.Ers.{IsNoEr}
 use Rattle.law_recovery_tries.specs.Since.{EndsIt}
 use Rattle.law_recovery_staying.proofs.Still.{seen_of, still, still_explains}
-
-all_short : (units : List (List ℕ)) → AllByRecursion (λ (unit : List ℕ). length unit ≤ 16384) units → AllShort units
-all_short [] s = tt
-all_short (unit ∷ units) s = (s.0, all_short units s.1)
-
-none_of : (units : List (List ℕ)) → length units ≡ 0 → units ≡ []
-none_of [] e = refl
-none_of (unit ∷ units) e = absurd (cc e)
 
 second : (a b : Bool) → (a && b) ≡ true → b ≡ true
 second true b h = h

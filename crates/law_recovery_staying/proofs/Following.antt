@@ -12,11 +12,11 @@ use Rattle.tp4_conn.specs.declared.call.UserCall.TheVariants.{Disconnect}
 use Rattle.tp4_conn.specs.declared.timers.Timers.{Timers}
 use Rattle.tp4_entity.specs.Entity.{Acted, Entity, at}
 use Rattle.tp4_entity.specs.Step.{restarted}
-use Rattle.script_journal.specs.Lawful.{ArePartners}
+use Rattle.script_journal.specs.Partner.{ArePartners}
 use Rattle.script_journal.specs.declared.event.Event.{Event}
 use Rattle.script_journal.specs.declared.event.Event.TheVariants as events
 use Rattle.law_tp4_history.specs.Tracks.{Whole}
-use Rattle.tp4_world.specs.Run.{has_ended}
+use Rattle.tp4_world.specs.Ended.{has_ended}
 use Rattle.tp4_world.specs.Telling.{call_events, ends_after, events_after}
 use Rattle.tp4_world.specs.World.{entity_at, latest, with_entity}
 use Rattle.tp4_world.specs.declared.place.EndAt.{EndAt}

@@ -1,8 +1,8 @@
 -- The place of one end, which is Opened and up to date, after each step of an entity: it is there still, unless the step is one of that end and leaves it otherwise.
 use Rattle.std.specs.List.{list_any}
 use Rattle.std.specs.Option.{unwrap_or}
-use Rattle.std.proofs.Common.{◌≡◌, inl, inr, ℕ, ◌+◌, ◌≤◌, ◌==◌, ◌&&◌, not, Bool, true, false, if◌then◌else◌, List, [], ◌∷◌, ◌++◌, Option, Some, None, refl, sym, ◌∙◌, ap, subst, arith}
-use Rattle.std.proofs.lemmas.Bool.{cases_eq, ne_eqb}
+use Rattle.std.proofs.Common.{◌≡◌, inl, inr, ℕ, ◌+◌, ◌≤◌, not, Bool, true, false, List, [], ◌∷◌, ◌++◌, Option, Some, None, refl, sym, ◌∙◌, ap, subst, arith}
+use Rattle.std.proofs.lemmas.Bool.{cases_eq}
 use Rattle.std.proofs.lemmas.Option.{none-some}
 use Rattle.tpdu.specs.Values.{TpduAndSum, destination_of}
 use Rattle.tpdu.specs.declared.tpdu.Tpdu.{Tpdu}
@@ -11,7 +11,7 @@ use Rattle.tp4_number.specs.Number.{whole}
 use Rattle.tp4_flow.specs.declared.step.EndEvent.{EndEvent}
 use Rattle.tp4_flow.specs.declared.step.What.{What}
 use Rattle.tp4_flow.specs.declared.step.What.TheVariants as whats
-use Rattle.tp4_sending.specs.FlowSender.{due_of}
+use Rattle.tp4_sending.specs.SendingHalf.{due_of}
 use Rattle.tp4_sending.specs.Pieces.{sooner}
 use Rattle.tp4_conn.specs.End.{End, Moved, end_of, frozen_for}
 use Rattle.tp4_conn.specs.Making.{connected, on_cr}
@@ -33,7 +33,7 @@ use Rattle.tp4_entity.proofs.Standings.{free_least}
 use Rattle.script_journal.specs.declared.event.Event.{Event as Told}
 use Rattle.law_tp4_history.specs.Tracks.{Whole}
 use Rattle.tp4_world.specs.Telling.{ends_after, ends_with}
-use Rattle.tp4_world.specs.World.{entity_at, is_at, latest, latest_from, with_entity}
+use Rattle.tp4_world.specs.World.{entity_at, latest, with_entity}
 use Rattle.tp4_world.specs.declared.place.EndAt.{EndAt}
 use Rattle.tp4_world.specs.declared.place.Placed.{Placed}
 use Rattle.law_tp4_lawful.proofs.Acting.{IsLike}
@@ -44,29 +44,10 @@ use Rattle.law_tp4_lawful.proofs.Frames.{entity_other, entity_set, place_other, 
 use Rattle.law_tp4_lawful.proofs.Known.{IsKnown, IsThere, Known}
 use Rattle.law_tp4_lawful.proofs.MakesPlaces.{at_other}
 use Rattle.law_tp4_lawful.proofs.WorldPlaces.{some_same}
+use Rattle.law_recovery_world.proofs.Seeing.{latest_other}
 use Rattle.law_recovery_tries.specs.Since.{IsUpToDate}
 
 -- ---- the latest end
-
-latest_from_other : (next found : ℕ) (ends : List EndAt) (end : EndAt) (system reference : ℕ) → is_at system reference end ≡ false
-    → latest_from next found (ends ++ end ∷ []) system reference ≡ latest_from next found ends system reference
-latest_from_other next found [] end system reference is = ap (λ (b : Bool). if b then next else found) is
-latest_from_other next found (one ∷ ends) end system reference is = latest_from_other (next + 1) (if is_at system reference one then next else found) ends end system reference is
-
-and_false : (b : Bool) → (b && false) ≡ false
-and_false true = refl
-and_false false = refl
-
-not_both : (a s b r : ℕ) → (a ≡ s → b ≡ r → ⊥) → (a == s && b == r) ≡ false
-not_both a s b r apart = elim (cases_eq a s) [
-  | inl same ↦ ap (λ (x : Bool). (a == s) && x) (ne_eqb b r (λ other. apart same other)) ∙ and_false (a == s)
-  | inr other ↦ ap (λ (x : Bool). x && (b == r)) (ne_eqb a s other)
-]
-
-latest_other : (ends : List EndAt) (system made other reference : ℕ) → (system ≡ other → made ≡ reference → ⊥)
-    → latest (ends ++ record { system = system; reference = made } ∷ []) other reference ≡ latest ends other reference
-latest_other ends system made other reference apart =
-    latest_from_other 1 0 ends (record { system = system; reference = made }) other reference (not_both system other made reference apart)
 
 one_apart : (ends : List EndAt) (system other reference : ℕ) (told : EndEvent) (what : What) → (other ≡ system → ⊥) → latest (ends_with ends system told what) other reference ≡ latest ends other reference
 one_apart ends system other reference told (whats.Incoming from partner calling called options octets) apart = latest_other ends system told.reference other reference (λ same also. apart (sym same))

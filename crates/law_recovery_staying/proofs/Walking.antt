@@ -1,13 +1,10 @@
 -- After further calls two partners that were Opened and up to date are so still, as long as neither is left and so many ticks have not passed.
 use Rattle.std.specs.List.{AllByRecursion}
-use Rattle.std.proofs.Common.{◌≡◌, ◌<◌, ◌≤◌, ℕ, ◌+◌, ◌*◌, true, List, [], ◌∷◌, ◌++◌, refl, sym, ◌∙◌, ap, subst, append-nil}
-use Rattle.std.proofs.lemmas.Option.{none-some}
+use Rattle.std.proofs.Common.{◌≡◌, ◌<◌, ◌≤◌, ℕ, ◌+◌, ◌*◌, true, List, [], ◌∷◌, ◌++◌, sym, subst, append-nil}
 use Rattle.osi_base.specs.Calls.{Call, Keeps}
 use Rattle.osi_base.specs.Link.{Link}
-use Rattle.script_journal.specs.Lawful.{ArePartners}
+use Rattle.script_journal.specs.Partner.{ArePartners}
 use Rattle.script_journal.specs.declared.event.Event.{Event}
-use Rattle.script_journal.specs.declared.event.Event.TheVariants as events
-use Rattle.net_world.specs.Told.{told}
 use Rattle.tp4_number.specs.Number.{whole}
 use Rattle.tp4_conn.specs.declared.timers.Timers.{Timers}
 use Rattle.law_tp4_proper.specs.Rest.{AreInTime, AreProper}
@@ -15,24 +12,19 @@ use Rattle.law_tp4_history.specs.Ends.{Times}
 use Rattle.law_tp4_history.specs.Journals.{Written}
 use Rattle.law_tp4_history.specs.Tracks.{IsNothing, Whole}
 use Rattle.tp4_world.specs.Called.{DidAll, KeepsLimits, WorldCall}
-use Rattle.tp4_world.specs.First.{HasNoEnd}
 use Rattle.tp4_world.specs.World.{World}
-use Rattle.tp4_world.specs.declared.place.EndAt.{EndAt}
-use Rattle.tp4_world.specs.declared.place.Placed.{Placed}
 use Rattle.law_tp4_lawful.specs.Called.{AreCalls, AreHonestCalls}
 use Rattle.law_tp4_lawful.proofs.ActsLines.{Flowing}
 use Rattle.law_tp4_lawful.proofs.Along.{Carries, Rests}
 use Rattle.law_tp4_lawful.proofs.CalledStarts.{followed_by}
 use Rattle.law_tp4_lawful.proofs.MeetsOthers.{KnowsTaken}
-use Rattle.law_tp4_lawful.proofs.WorldAsides.{are_aside, told_quiet}
 use Rattle.law_tp4_lawful.proofs.WorldCalls.{calls_hold}
 use Rattle.law_tp4_lawful.proofs.WorldFloats.{start_goes}
 use Rattle.law_tp4_lawful.proofs.WorldOutcomes.{one_unit, outcomes}
-use Rattle.law_tp4_lawful.proofs.WorldStarts.{found, no_end_at, no_ends, started}
 use Rattle.law_tp4_lawful.proofs.Worlds as worlds
-use Rattle.law_recovery_world.specs.Steady.{AreShort, AreSteady}
-use Rattle.law_recovery_world.proofs.After.{aside_short, followed}
+use Rattle.law_recovery_world.proofs.After.{followed}
 use Rattle.law_recovery_world.proofs.Known as recovery
+use Rattle.law_recovery_world.proofs.WorldSteady.{at_zero, begun as rests_first, carrier_is, first_known}
 use Rattle.law_recovery_world.proofs.Worlds as kept_worlds
 use Rattle.law_recovery_staying.specs.Laws.{PartnersStay}
 use Rattle.law_recovery_staying.specs.Staying.{IsLeftAlone, IsOpenedSince}
@@ -40,18 +32,6 @@ use Rattle.law_recovery_staying.proofs.Following.{followed_two, two_kept}
 use Rattle.law_recovery_staying.proofs.Known.{AreAlone, IsOffered, IsSoon, Known, Two}
 use Rattle.law_recovery_staying.proofs.Placing.{IsAt}
 use Rattle.law_recovery_staying.proofs.Reporting.{followed_steady, offered_grows, steady_kept}
-
--- ends that are not there
-none_steady : (credit now : ℕ) (entities : List Placed) → AllByRecursion (λ (one : Placed). HasNoEnd one.entity) entities → AreSteady credit now entities
-none_steady credit now entities none system entity is reference e there =
-    let f = found (λ (one : Placed). HasNoEnd one.entity) entities system entity none is in
-    absurd (none-some e (sym (no_end_at entity (subst HasNoEnd f.entity_is f.holds) reference) ∙ there))
-
-none_seeing : (credit : ℕ) (w : Whole) (journal : List Event) (entities : List Placed) (ends : List EndAt) → AllByRecursion (λ (one : Placed). HasNoEnd one.entity) entities
-    → recovery.AreSeeing credit w journal entities ends
-none_seeing credit w journal entities ends none system entity is reference e there =
-    let f = found (λ (one : Placed). HasNoEnd one.entity) entities system entity none is in
-    absurd (none-some e (sym (no_end_at entity (subst HasNoEnd f.entity_is f.holds) reference) ∙ there))
 
 -- what comes behind the same front
 tails : {A : Type 0} (x y : A) (xs ys : List A) → x ∷ xs ≡ y ∷ ys → xs ≡ ys
@@ -75,35 +55,17 @@ module _ {C : Type 0} (link : C → Link (List ℕ)) (steps : C → Call (List �
 
     -- ---- up to here
 
-    begun : worlds.Rests link AreProper titles timers r.begun r.first
-    begun = started titles timers a.timed a.timed.inactive_least a.distinct r.placed r.is_first.entities r.untouched begins link steps law plain AreProper AreInTime outcomes r.made r.begun
-        r.first r.is_first r.starts
-
-    entities_are : r.first.entities ≡ r.placed
-    entities_are = ap (λ (x : World C). x.entities) r.starts.becomes
-
-    carrier_is : r.first.carrier ≡ r.starts.below
-    carrier_is = ap (λ (x : World C). x.carrier) r.starts.becomes
-
-    at_zero : begun.w.base.clock ≡ 0
-    at_zero = sym begun.explains.carries.clock ∙ ap (λ (c : C). (link c).clock) carrier_is ∙ r.starts.gathers.stands.clock ∙ r.is_first.carrier_is.clock
-
-    no_end : AllByRecursion (λ (one : Placed). HasNoEnd one.entity) r.first.entities
-    no_end = subst (λ (es : List Placed). AllByRecursion (λ (one : Placed). HasNoEnd one.entity) es) (sym entities_are) (no_ends titles r.placed r.is_first.entities)
+    abbrev begun : worlds.Rests link AreProper titles timers r.begun r.first
+    begun = rests_first link steps law flowing knows begins titles timers early old a
 
     first_rests : Rests timers (recovery.Known titles timers) (IsOffered timers) link AreProper r.begun r.first
     first_rests = record {
       w = begun.w;
       explains = record {
-        known = record {
-          plain = begun.explains.known;
-          steady = none_steady timers.credit begun.w.base.clock r.first.entities no_end;
-          seeing = none_seeing timers.credit begun.w r.begun r.first.entities r.first.ends no_end;
-          short = subst AreShort (sym r.starts.made_is)
-              (aside_short [] (events.Tick 0 ∷ told r.starts.ups) (λ end. tt) (are_aside (events.Tick 0 ∷ told r.starts.ups) (record { submits = λ end. refl; shows = λ end. refl; makes = refl }, told_quiet r.starts.ups)));
-        };
-        carries = subst (λ (c : C). Carries (IsOffered timers) timers.life begun.w.base (link c)) (sym carrier_is)
-            (start_goes (IsOffered timers) (offered_grows timers) timers.life link steps law begun.w.base titles r.made r.starts.below r.starts.ups r.is_first.carrier_is at_zero r.starts.gathers);
+        known = first_known link steps law flowing knows begins titles timers early old a;
+        carries = subst (λ (c : C). Carries (IsOffered timers) timers.life begun.w.base (link c)) (sym (carrier_is link steps law flowing knows begins titles timers early old a))
+            (start_goes (IsOffered timers) (offered_grows timers) timers.life link steps law begun.w.base titles r.made r.starts.below r.starts.ups r.is_first.carrier_is
+            (at_zero link steps law flowing knows begins titles timers early old a) r.starts.gathers);
       };
       rest = begun.rest;
     }

@@ -3,7 +3,7 @@ use Rattle.std.specs.Prelude.{◌≡◌, ◌<◌, ◌≤◌, ℕ, ◌+◌, ◌*�
 use Rattle.std.specs.List.{AllByRecursion}
 use Rattle.osi_base.specs.Calls.{Call}
 use Rattle.osi_base.specs.Link.{Link}
-use Rattle.script_journal.specs.Lawful.{ArePartners}
+use Rattle.script_journal.specs.Partner.{ArePartners}
 use Rattle.script_journal.specs.declared.event.Event.{Event}
 use Rattle.tp4_number.specs.Number.{whole}
 use Rattle.tp4_conn.specs.declared.timers.Timers.{Timers}

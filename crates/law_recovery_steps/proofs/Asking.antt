@@ -2,7 +2,7 @@
 use Rattle.std.specs.Prelude.{not, is_some}
 use Rattle.std.proofs.Common.{◌≡◌, inl, inr, ℕ, zero, suc, ◌+◌, ◌-◌, ◌<◌, ◌≤◌, ◌==◌, ◌||◌, ◌&&◌, nat_lt, Bool, false, if◌then◌else◌, List, [], ◌∷◌, ◌++◌, drop, length, length-append, Option, Some, None, refl, sym, ◌∙◌, ap, subst, arith, append-nil, append_assoc, Contains, true≢false, true}
 use Rattle.std.proofs.lemmas.Bool.{and_parts, or_parts, lt-ltb}
-use Rattle.std.proofs.lemmas.List.Elements.{Contains-append_cases, Contains-push, Contains-push_cases}
+use Rattle.std.proofs.lemmas.List.Elements.{Contains-append_cases, Contains-push}
 use Rattle.std.proofs.lemmas.Bool.Decides.{nat_tests}
 use Rattle.tp4_number.specs.declared.piece.Piece.{Piece}
 use Rattle.tp4_number.specs.Expedited.{Urgent}
@@ -15,7 +15,7 @@ use Rattle.law_tp4_recovery.specs.Urgent.{Asks, Asks_again, Ea_arrives, GoOn, Ur
 use Rattle.tp4_flow.specs.declared.rules.FlowRules.{FlowRules}
 use Rattle.tp4_flow.specs.declared.rules.Life.{Life}
 use Rattle.tp4_flow.specs.declared.rules.Life.TheVariants.{Goes, Exhausted}
-use Rattle.tp4_sending.specs.FlowSender.{FlowSender, Sendings, UrgentSender, acknowledged, acknowledged_to, all_dts, block_in, dts, dts_of, due_numbers, eds, has_next, is_noted, is_outstanding, is_taken, is_urgent, life_of, new_sends, normals, normals_where, nothing, one_urgent, resends, resends_urgent, resends_urgent_as, retried_urgent, rule_allows, sent_normal, submitted, then_sends, ticked, ticked_as, urged, urgent_done}
+use Rattle.tp4_sending.specs.SendingHalf.{FlowSender, Sendings, UrgentSender, acknowledged, acknowledged_to, all_dts, block_in, dts, dts_of, due_numbers, eds, has_next, is_noted, is_outstanding, is_taken, is_urgent, life_of, new_sends, normals, normals_where, nothing, one_urgent, resends, resends_urgent, resends_urgent_as, retried_urgent, rule_allows, sent_normal, submitted, then_sends, ticked, ticked_as, urged, urgent_done}
 use Rattle.tp4_sending.specs.Kept.{urgent_base}
 use Rattle.tp4_sending.specs.Pieces.{cut_at, end_of, is_due}
 use Rattle.tp4_sending.specs.declared.tries.Tries.{Tries}
@@ -25,7 +25,7 @@ use Rattle.law_tp4_pair.specs.steps.Waiting.{eds_in}
 use Rattle.law_tp4_pair.proofs.Wires.{eds_then}
 use Rattle.law_recovery_steps.specs.Asking.{AsksOut, GoesUrgently, IsAskedBy, UrgentAside, asked_aside, urgent_road}
 use Rattle.law_recovery_steps.specs.Sending.{dts_on}
-use Rattle.law_recovery_steps.proofs.Sending.{dts_on_then}
+use Rattle.law_recovery_steps.proofs.Sending.{dts_on_then, none_in, one_alone}
 
 -- ---- the ED that is outstanding
 
@@ -117,12 +117,6 @@ some_units : (units : List (List ℕ)) → (length units == 0) ≡ false → 0 <
 some_units [] e = absurd (cc e)
 some_units (unit ∷ units) e = omega arith
 
-one_alone : (x y : ℕ × ℕ) → Contains (x ∷ []) y → x ≡ y
-one_alone x y h = elim (Contains-push_cases [] x y h) [ inl never ↦ absurd (omega (arith, never.1)) | inr is ↦ is ]
-
-none_there : (e : ℕ × ℕ) → Contains [] e → ⊥
-none_there e c = omega (arith, c.1)
-
 module _ (life u : ℕ) where
   abbrev Out : FlowSender → ℕ → ℕ → UrgentAside → Sendings → Type 0
   Out s base expected x z = AsksOut life u s base expected x x z
@@ -144,7 +138,7 @@ module _ (life u : ℕ) where
     rules = e.rules;
     clock = e.clock;
     eds = e.eds;
-    more_now = λ d c. absurd (none_there d c);
+    more_now = λ d c. absurd (none_in d c);
     tried = λ sends d. subst (IsAskedBy u base z.sender.urgent.out) (sym (append-nil sends)) (subst (λ (o : Option Tries). IsAskedBy u base o sends) (sym e.out) d);
   }
     where
@@ -288,7 +282,7 @@ module _ (life u : ℕ) where
         rules = refl;
         clock = refl;
         eds = refl;
-        more_now = λ d c. absurd (none_there d c);
+        more_now = λ d c. absurd (none_in d c);
         tried = λ sends d. tt;
       } in
       seq s base expected x y (nothing t) new_sends first (λ after k e. new_asks t after expected k e tt))
@@ -301,7 +295,7 @@ module _ (life u : ℕ) where
         rules = refl;
         clock = refl;
         eds = refl;
-        more_now = λ d c. absurd (none_there d c);
+        more_now = λ d c. absurd (none_in d c);
         tried = λ sends d. subst (IsAskedBy u base s.urgent.out) (sym (append-nil sends)) d;
       })
     where

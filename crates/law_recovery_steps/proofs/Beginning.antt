@@ -2,8 +2,8 @@
 use Rattle.std.proofs.Common.{◌≡◌, inl, ℕ, ◌+◌, ◌≤◌, List, [], ◌∷◌, sym, ◌∙◌, ap, subst, arith, Option, Some, None}
 use Rattle.tpdu.specs.declared.tpdu.Format.{Format}
 use Rattle.tp4_number.specs.Formats.{most_of}
-use Rattle.tp4_flow.specs.Half.{Half}
-use Rattle.tp4_sending.specs.FlowSender.{FlowSender}
+use Rattle.tp4_flow.specs.ReceivingHalf.{Half}
+use Rattle.tp4_sending.specs.SendingHalf.{FlowSender}
 use Rattle.tp4_sending.specs.declared.tries.Tries.{Tries}
 use Rattle.tp4_conn.specs.declared.states.InOpened.{InOpened}
 use Rattle.law_recovery_ends.specs.Due.{AreTried, AreTriedBy, IsTriedBy}
@@ -28,19 +28,7 @@ direction_begins life now acked s h units k full spoke =
       aside = k.aside;
       no_dts = k.no_dts;
       no_aks = k.no_aks;
-      past = record {
-        fit = k.fit;
-        tick = k.tick;
-        credit = k.credit;
-        places = k.places;
-        room = k.room;
-        credit_low = k.credit_low;
-        room_low = k.room_low;
-        events = k.events;
-        leads = k.leads;
-        views = k.views;
-        fits = record { places = k.fits.places ∙ sym most; room = omega (arith, k.fits.room, most); free = k.fits.free };
-      };
+      past = record { reached = k.reached; fits = record { places = k.fits.places ∙ sym most; room = omega (arith, k.fits.room, most); free = k.fits.free } };
       format = k.format;
       places = most;
       fits = k.fits;

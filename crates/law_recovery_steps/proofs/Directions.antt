@@ -1,6 +1,6 @@
 -- One direction goes on, by the moves of its halves.
 use Rattle.std.proofs.Common.{◌≡◌, inl, inr, ℕ, ◌+◌, List, [], ◌∷◌, ◌++◌, length, refl, sym, ◌∙◌, ap, subst, arith, Contains}
-use Rattle.std.proofs.lemmas.List.Elements.{Contains-append_left, Contains-append_right, Contains-append_cases, Contains-push, Contains-push_cases}
+use Rattle.std.proofs.lemmas.List.Elements.{Contains-append_left, Contains-append_right, Contains-append_cases, Contains-push}
 use Rattle.tpdu.specs.declared.tpdu.Format.{Format}
 use Rattle.tp4_number.specs.declared.got.Got.{Got}
 use Rattle.tp4_number.specs.declared.got.Got.TheVariants.{TooLarge}
@@ -11,11 +11,12 @@ use Rattle.tp4_number.specs.Receiver.{Inbox}
 use Rattle.tp4_number.specs.Traffic.{Answer, Rules}
 use Rattle.tp4_number.specs.Window.{is_held}
 use Rattle.tp4_number.proofs.Past.{if_kept}
+use Rattle.law_tp4_recovery.proofs.Keeping.{later_too}
 use Rattle.law_tp4_recovery.specs.Recovering.{Road}
-use Rattle.tp4_flow.specs.Half.{Half, Received, ak, aks as aks_for, block_in as block_there, dt_arrival, half_granted, is_next, taken_dt, taken_ed}
+use Rattle.tp4_flow.specs.ReceivingHalf.{Half, Received, ak, aks as aks_for, block_in as block_there, dt_arrival, half_granted, is_next, taken_dt, taken_ed}
 use Rattle.tp4_flow.specs.declared.rules.FlowRules.{FlowRules}
 use Rattle.tp4_flow.specs.declared.step.Sent.{Sent}
-use Rattle.tp4_sending.specs.FlowSender.{FlowSender, Sendings, acknowledged, at, block_in, submitted, ticked, urged, urgent_done}
+use Rattle.tp4_sending.specs.SendingHalf.{FlowSender, Sendings, acknowledged, at, block_in, submitted, ticked, urged, urgent_done}
 use Rattle.tp4_sending.specs.Settled.{IsSettled}
 use Rattle.law_recovery_pair.specs.Fitting.{Fits}
 use Rattle.law_recovery_pair.specs.Riding.{Aside, GoesOn, road_of, rules_by, said_aside, says_now, sent_aside, sent_at}
@@ -26,16 +27,7 @@ use Rattle.law_tp4_pair.specs.steps.Waiting.{View, aks_in}
 use Rattle.law_recovery_steps.specs.Directions.{Rides, RidesOn}
 use Rattle.law_recovery_steps.specs.Sending.{GoesOut, IsFed, aks_on, dts_on}
 use Rattle.law_recovery_steps.proofs.Settling.{ak_settles, calls_settle}
-use Rattle.law_recovery_steps.proofs.Sending.{aks_on_then, calls_out, dts_on_then, first_ak_out}
-
-later : {X : Type 0} (x y : X) (rest : List X) → Contains rest y → Contains (x ∷ rest) y
-later x y rest h = Contains-append_right (x ∷ []) rest y h
-
-first_of : {X : Type 0} (x : X) (rest : List X) → Contains (x ∷ rest) x
-first_of x rest = Contains-append_left (x ∷ []) rest x (Contains-push [] x)
-
-one_alone : {X : Type 0} (x y : X) → Contains (x ∷ []) y → x ≡ y
-one_alone x y h = elim (Contains-push_cases [] x y h) [ inl never ↦ absurd (omega (arith, never.1)) | inr is ↦ is ]
+use Rattle.law_recovery_steps.proofs.Sending.{aks_on_then, calls_out, dts_on_then, first_ak_out, first_of, no_aks, no_dts, none_in, one_alone}
 
 sent_now : (tick : ℕ) (ns : List ℕ) (e : ℕ × ℕ) → Contains (sent_at tick ns) e → e.1 ≡ tick
 sent_now tick [] e h = absurd (omega (arith, h.1))
@@ -138,7 +130,7 @@ module _ (life size u : ℕ) (old : Road) (s : FlowSender) (h : Half) where
           subst (λ (k : View). RidesOn life size u now old s h dts aks acked (acknowledged (at now s) k.number k.credit k.subsequence)) one
           (sends_on now dts (v ∷ aks) aks acked rest (acknowledged (at now s) (wire (block_in s) a.number) a.credit a.subsequence) r (ak_settles (at now s) (wire (block_in s) a.number) a.credit a.subsequence r.fed.is_open (at_settled now r.settled))
           (first_ak_out life size u (at now s) h r.aside a rest (at_fed now r.fed) is was.0 (omega (arith, was.1))) others
-          (λ b c. subst (λ (l : List Answer). Contains l b) (sym is) (later a b rest c)))
+          (λ b c. subst (λ (l : List Answer). Contains l b) (sym is) (later_too a b rest c)))
 
   -- ---- the receiving half
 
@@ -185,7 +177,7 @@ module _ (life size u : ℕ) (old : Road) (s : FlowSender) (h : Half) where
           subst (λ (l : List Sent). Ride now s x.half dts (aks ++ aks_in l) now) (sym (answered (dt_arrival h (wire (block_there h) e.0) piece).got x.half fits))
           (says_then now x.half (w ∷ dts) dts aks acked rest r refl (dt_fits h (wire (block_there h) e.0) piece fits r.fits)
           (rules_of _ _ r.format (dt_move life size u s.rules.limit now s.numbers h r.aside [] e.0 e.1 rest piece is was.0 (omega (arith, was.1)) fits)) others
-          (λ d c. subst (λ (l : List (ℕ × ℕ)). Contains l d) (sym is) (later e d rest c)))
+          (λ d c. subst (λ (l : List (ℕ × ℕ)). Contains l d) (sym is) (later_too e d rest c)))
 
       by : (l : List (ℕ × ℕ)) → r.aside.dts ≡ l → w ∷ dts ≡ dts_on (block_in s) l → Ride now s (taken_dt whole h w piece).half dts (aks ++ aks_in (taken_dt whole h w piece).tpdus) now
       by [] is e = absurd (cc e)
@@ -195,34 +187,45 @@ module _ (life size u : ℕ) (old : Road) (s : FlowSender) (h : Half) where
           subst (λ (k : ℕ). Ride now s (taken_dt whole h k piece).half dts (aks ++ aks_in (taken_dt whole h k piece).tpdus) now) here
           (there d rest is (cc e) (subst (λ (k : ℕ). (dt_arrival h k piece).got ≡ TooLarge → ⊥) (sym here) small))
 
-  -- it goes on to a half that says the same
-  pub same_ride : (now : ℕ) (k : Half) (dts : List ℕ) (aks : List View) (acked : ℕ) → k.rules ≡ h.rules → k.receiver.expected ≡ h.receiver.expected → k.receiver.inbox ≡ h.receiver.inbox
-      → Ride now s h dts aks acked → Ride now s k dts aks acked
-  same_ride now k dts aks acked rules expected inbox r = record {
+  -- from the same road, beside which the same stands, at a tick `later`
+  rides_as : {now acked : ℕ} {dts : List ℕ} {aks : List View} (r : Ride now s h dts aks acked) (later : ℕ) (t : FlowSender) (k : Half) → GoesOn (rules_by life s.rules) size u old (road_of later s.numbers k r.aside) → k.rules ≡ h.rules
+      → Fits k → IsFed (record t { rules = s.rules; numbers = s.numbers; window = s.window }) → IsSettled (record t { rules = s.rules; numbers = s.numbers; window = s.window })
+      → ((e : ℕ × ℕ) → Contains r.aside.dts e → Contains r.aside.sends e × (e.1 ≡ later)) → ((a : Answer) → Contains r.aside.aks a → Contains r.aside.answers a × (a.tick ≡ later))
+      → Ride later (record t { rules = s.rules; numbers = s.numbers; window = s.window }) k dts aks acked
+  rides_as r later t k goes rules fits fed settled dts_now aks_now = record {
     aside = r.aside;
-    goes = subst (λ (w : Road). GoesOn (rules_by life s.rules) size u old w) (λ i. record {
-      traffic = record {
-        clock = now;
-        sender = s.numbers;
-        receiver = record { expected = sym expected i; urgent = r.aside.urgent; inbox = sym inbox i };
-        sends = r.aside.sends;
-        answers = r.aside.answers;
-      };
-      dts = r.aside.dts;
-      aks = r.aside.aks;
-    }) r.goes;
+    goes = goes;
     format = ap (λ (f : FlowRules). f.format) rules ∙ r.format;
     places = r.places ∙ ap (λ (f : FlowRules). most_of f.format) (sym rules);
-    fits = fits_same h k rules inbox r.fits;
-    fed = r.fed;
-    settled = r.settled;
+    fits = fits;
+    fed = fed;
+    settled = settled;
     tried = r.tried;
     dts_are = r.dts_are;
     aks_are = r.aks_are;
-    dts_now = r.dts_now;
-    aks_now = r.aks_now;
+    dts_now = dts_now;
+    aks_now = aks_now;
     spoke = r.spoke;
   }
+
+  -- it goes on to a half that says the same
+  pub same_ride : (now : ℕ) (k : Half) (dts : List ℕ) (aks : List View) (acked : ℕ) → k.rules ≡ h.rules → k.receiver.expected ≡ h.receiver.expected → k.receiver.inbox ≡ h.receiver.inbox
+      → Ride now s h dts aks acked → Ride now s k dts aks acked
+  same_ride now k dts aks acked rules expected inbox r = rides_as r now s k (subst (λ (w : Road). GoesOn (rules_by life s.rules) size u old w) (λ i. record {
+    traffic = record {
+      clock = now;
+      sender = s.numbers;
+      receiver = record { expected = sym expected i; urgent = r.aside.urgent; inbox = sym inbox i };
+      sends = r.aside.sends;
+      answers = r.aside.answers;
+    };
+    dts = r.aside.dts;
+    aks = r.aside.aks;
+  }) r.goes) rules (fits_same h k rules inbox r.fits) r.fed r.settled r.dts_now r.aks_now
+
+  -- the clock of a half is no part of it
+  pub clock_ride : (now clock : ℕ) (dts : List ℕ) (aks : List View) (acked : ℕ) → Ride now s h dts aks acked → Ride now (at clock s) h dts aks acked
+  clock_ride now clock dts aks acked r = rides_as r now (at clock s) h r.goes refl r.fits (at_fed clock r.fed) (at_settled clock r.settled) r.dts_now r.aks_now
 
   pub eds_ride : (now : ℕ) (dts : List ℕ) (aks : List View) (acked w : ℕ) (octets : List ℕ) → Ride now s h dts aks acked → Ride now s (taken_ed whole h w octets).half dts aks acked
   eds_ride now dts aks acked w octets r = if_kept (λ (k : Half). Ride now s k dts aks acked) (is_next h w) _ _
@@ -237,33 +240,8 @@ module _ (life size u : ℕ) (old : Road) (s : FlowSender) (h : Half) where
 
   -- ---- a tick
 
-  no_dts : (l : List (ℕ × ℕ)) → [] ≡ dts_on (block_in s) l → l ≡ []
-  no_dts [] e = refl
-  no_dts (d ∷ l) e = absurd (cc e)
-
-  no_aks : (l : List Answer) → [] ≡ aks_on (block_in s) l → l ≡ []
-  no_aks [] e = refl
-  no_aks (a ∷ l) e = absurd (cc e)
-
   pub clocks_ride : (now acked : ℕ) → Ride now s h [] [] acked → Ride (now + 1) s h [] [] acked
-  clocks_ride now acked r = record {
-    aside = r.aside;
-    goes = goes_then (rules_by life s.rules) size u old (road_of now s.numbers h r.aside) (road_of (now + 1) s.numbers h r.aside) r.goes (clock_move life size u (rules_by life s.rules) now s.numbers h r.aside);
-    format = r.format;
-    places = r.places;
-    fits = r.fits;
-    fed = r.fed;
-    settled = r.settled;
-    tried = r.tried;
-    dts_are = r.dts_are;
-    aks_are = r.aks_are;
-    dts_now = λ e c. absurd (empty_dts e (subst (λ (l : List (ℕ × ℕ)). Contains l e) (no_dts r.aside.dts r.dts_are) c));
-    aks_now = λ a c. absurd (empty_aks a (subst (λ (l : List Answer). Contains l a) (no_aks r.aside.aks r.aks_are) c));
-    spoke = r.spoke;
-  }
-    where
-      empty_dts : (e : ℕ × ℕ) → Contains [] e → ⊥
-      empty_dts e c = omega (arith, c.1)
-
-      empty_aks : (a : Answer) → Contains [] a → ⊥
-      empty_aks a c = omega (arith, c.1)
+  clocks_ride now acked r = rides_as r (now + 1) s h
+      (goes_then (rules_by life s.rules) size u old (road_of now s.numbers h r.aside) (road_of (now + 1) s.numbers h r.aside) r.goes (clock_move life size u (rules_by life s.rules) now s.numbers h r.aside))
+      refl r.fits r.fed r.settled (λ e c. absurd (none_in e (subst (λ (l : List (ℕ × ℕ)). Contains l e) (no_dts (block_in s) r.aside.dts r.dts_are) c)))
+      (λ a c. absurd (none_in a (subst (λ (l : List Answer). Contains l a) (no_aks (block_in s) r.aside.aks r.aks_are) c)))

@@ -7,20 +7,27 @@ use Rattle.tp4_conn.specs.declared.states.InOpened.{InOpened}
 use Rattle.tp4_conn.specs.declared.states.StateData.{StateData}
 use Rattle.tp4_conn.specs.declared.states.StateData.TheVariants.{Opened}
 use Rattle.tp4_conn.specs.End.{End, Moved}
-use Rattle.tp4_conn.specs.Table.{Called, Took, Ticked, at, on_call, on_tick, stepped, takes}
+use Rattle.tp4_conn.specs.Table.{Called, Took, at, on_call, on_tick, stepped, takes}
 use Rattle.law_tp4_pair.specs.Pair.{Asks_called, Asks_calling, Clock, Comes_back, Comes_forth, Happening, IsIdle, Leads, May, Pair, asks_called, asks_calling, clocked, comes_back, comes_forth, next, tick_of}
-use Rattle.law_tp4_pair.specs.steps.Standing.{HasLeft, Party, party}
+use Rattle.law_tp4_pair.specs.steps.Standing.{Party, party}
 use Rattle.law_tp4_pair.proofs.Leaving.{stays_left}
+use Rattle.law_tp4_pair.proofs.Pairs.{tick_left}
 use Rattle.law_recovery_steps.specs.Steps.{AreRiding, IsParted, IsRiding, RidesOnward, Since, StaysOpen}
 use Rattle.law_recovery_steps.proofs.Directions.{clocks_ride}
 use Rattle.law_recovery_steps.proofs.Urging.{clocks_urge}
 use Rattle.law_recovery_steps.proofs.Steps.{calls_onward, takes_onward, ticks_onward}
 
--- ---- where one has left
+-- ---- the clock of a pair, as a TPDU comes
 
-tick_left : (ticks : Bool) (now : ℕ) (e : End) → HasLeft e.stage → HasLeft (tick_of ticks now e).stage
-tick_left true now e left = stays_left now e Ticked left
-tick_left false now e left = left
+pub forth_clock : (p : Pair) (l : List Sent) → (comes_forth p l).clock ≡ p.clock
+forth_clock p [] = refl
+forth_clock p (sent ∷ rest) = refl
+
+pub back_clock : (p : Pair) (l : List Sent) → (comes_back p l).clock ≡ p.clock
+back_clock p [] = refl
+back_clock p (sent ∷ rest) = refl
+
+-- ---- where one has left
 
 left_on : (p : Pair) (happening : Happening) → IsParted p → IsParted (next p happening)
 left_on p Comes_forth left = by p.forth left

@@ -1,10 +1,10 @@
 -- EDs of a direction are quiet, by the law along their road.
-use Rattle.std.proofs.Common.{◌≡◌, inl, inr, ◌<◌, ◌≤◌, ℕ, ◌+◌, Bool, true, if◌then◌else◌, List, [], ◌∷◌, Option, Some, None, refl, sym, subst, arith, Contains}
+use Rattle.std.proofs.Common.{◌≡◌, inl, inr, ◌<◌, ◌≤◌, ℕ, ◌+◌, Bool, true, if◌then◌else◌, List, [], Option, Some, None, refl, sym, subst, arith, Contains}
 use Rattle.tp4_number.specs.Expedited.{LeadsUrgently, Ticks, Urgent, UrgentEvent, quiet, urgently}
 use Rattle.tp4_number.specs.Traffic.{IsFit}
 use Rattle.law_tp4_recovery.proofs.Answering.{all_urgent}
-use Rattle.tp4_flow.specs.Half.{Half}
-use Rattle.tp4_sending.specs.FlowSender.{FlowSender, block_in, due_of, normal_opens, urgent_last, urgent_opens}
+use Rattle.tp4_flow.specs.ReceivingHalf.{Half}
+use Rattle.tp4_sending.specs.SendingHalf.{FlowSender, block_in, due_of, normal_opens, urgent_last, urgent_opens}
 use Rattle.tp4_sending.specs.Kept.{urgent_base}
 use Rattle.tp4_sending.specs.Pieces.{least_due, sooner}
 use Rattle.tp4_sending.specs.declared.tries.Tries.{Tries}
@@ -17,7 +17,7 @@ use Rattle.tp4_conn.specs.Table.{due}
 use Rattle.law_recovery_ends.proofs.Due.{parts_in_time}
 use Rattle.law_recovery_steps.specs.Asking.{IsAskedBy, urgent_road}
 use Rattle.law_recovery_steps.specs.Quieting.{IsYoung}
-use Rattle.law_recovery_steps.specs.Sending.{dts_on}
+use Rattle.law_recovery_steps.proofs.Sending.{no_dts}
 use Rattle.law_recovery_steps.specs.Urging.{AreQuiet, Urges}
 
 pub eds_young : (now : ℕ) (b : EndRecord) (o : InOpened) → o.halves.sending.is_open ≡ true → IsInTime (due b (Opened o)) (now + 1) → IsYoung o.halves.sending.rules.t1 now o.halves.sending.urgent.out
@@ -39,10 +39,6 @@ eds_young now b o is_open h = by s.urgent.out (parts_in_time (urgent_last s s.ur
     by None t = tt
     by (Some tries) t = omega (arith, t)
 
-none_on : (block : ℕ) (l : List (ℕ × ℕ)) → [] ≡ dts_on block l → l ≡ []
-none_on block [] e = refl
-none_on block (d ∷ l) e = absurd (cc e)
-
 -- an ED that is outstanding was sent since then
 sent_since : (u t1 now base next : ℕ) (out : Option Tries) (sends : List (ℕ × ℕ)) → (s : FlowSender) → s.urgent.next ≡ next → urgent_base s.urgent out base → IsAskedBy u base out sends → IsYoung t1 now out → u + t1 ≤ now + 1 → base < next
     → (t : ℕ) × Contains sends (base, t) × (now < t + t1)
@@ -60,6 +56,6 @@ pub eds_rest : (life tick t1 now : ℕ) (events : List UrgentEvent) (v : Urgent)
     → Urges life (v.clock + 1) now (record { urgent = urgently (rules_by life s.rules) v Ticks; eds = []; eas = [] }) s h [] [] → IsYoung t1 now s.urgent.out → v.clock + t1 ≤ now → AreQuiet s h
 eds_rest life tick t1 now events v s h fit leads r young late =
     let x = all_urgent (rules_by life s.rules) tick t1 events v r.goes.moves (urgent_road now r.base s.urgent h.receiver.urgent r.aside) fit leads r.goes.are
-    (none_on (block_in s) r.aside.eds r.eds_are) (none_on (block_in s) r.aside.eas r.eas_are)
+    (no_dts (block_in s) r.aside.eds r.eds_are) (no_dts (block_in s) r.aside.eas r.eas_are)
     (λ below. sent_since (v.clock + 1) t1 now r.base s.urgent.next s.urgent.out r.aside.sends s refl r.base_is r.tried young (omega (arith, late)) below) late in
     record { out = none_out r.base s.urgent.out s r.base_is x.0; next = sym x.1 }

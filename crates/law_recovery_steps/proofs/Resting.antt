@@ -1,55 +1,37 @@
 -- A pair rides from a tick at which nothing waits to one at which nothing waits again, and rests there.
-use Rattle.std.proofs.Common.{◌≡◌, ◌⊎◌, inl, inr, ℕ, ◌+◌, ◌<◌, ◌≤◌, max, Bool, true, List, [], ◌∷◌, None, refl, sym, ◌∙◌, ap, subst, arith, Contains, ◌++◌}
-use Rattle.tp4_number.specs.Traffic.{Answer, IsFit, Rules, Tick, Traffic, after}
+use Rattle.std.proofs.Common.{◌≡◌, ◌⊎◌, inl, inr, ℕ, ◌+◌, ◌<◌, ◌≤◌, max, Bool, List, [], ◌∷◌, refl, sym, ◌∙◌, ap, subst, arith, Contains, ◌++◌}
+use Rattle.tp4_number.specs.Traffic.{IsFit, Rules, Tick, Traffic, after}
 use Rattle.law_tp4_recovery.specs.Recovering.{Move, Moves, Road, moved}
 use Rattle.law_tp4_recovery.proofs.Chains.{Stands, stands_on}
-use Rattle.tp4_flow.specs.Half.{Half}
+use Rattle.tp4_flow.specs.ReceivingHalf.{Half}
 use Rattle.tp4_flow.specs.declared.rules.FlowRules.{FlowRules}
 use Rattle.tp4_flow.specs.declared.step.Sent.{Sent}
-use Rattle.tp4_sending.specs.FlowSender.{FlowSender, block_in}
-use Rattle.tp4_sending.specs.Settled.{IsSettled}
+use Rattle.tp4_sending.specs.SendingHalf.{FlowSender, block_in}
 use Rattle.law_recovery_pair.specs.Riding.{Aside, road_of, rules_by}
 use Rattle.tp4_conn.specs.declared.states.InOpened.{InOpened}
 use Rattle.tp4_conn.specs.declared.states.StateData.{StateData}
 use Rattle.tp4_conn.specs.Living.{IsInTime}
 use Rattle.tp4_conn.specs.Table.{due}
 use Rattle.law_recovery_ends.specs.Due.{AreYoung, IsUndue}
-use Rattle.law_recovery_ends.specs.Resting.{AreUndue, IsNow, IsPast}
+use Rattle.law_recovery_ends.specs.Resting.{AreUndue, IsNow, IsPast, WasReached}
 use Rattle.law_recovery_ends.proofs.Due.{undue}
 use Rattle.law_recovery_ends.proofs.Resting.{rest}
-use Rattle.law_tp4_pair.specs.Pair.{Asks_called, Asks_calling, Clock, Comes_back, Comes_forth, Happening, IsIdle, Leads, May, Pair, comes_back, comes_forth, next}
-use Rattle.law_tp4_pair.specs.steps.Rest.{By_ed, IsAtRest}
+use Rattle.law_tp4_pair.specs.Pair.{Asks_called, Asks_calling, Clock, Comes_back, Comes_forth, Happening, IsIdle, Leads, May, Pair, next}
 use Rattle.law_tp4_pair.specs.steps.Standing.{IsAgreed, party}
-use Rattle.law_tp4_pair.proofs.Resting.{expedited_left, normal_left}
+use Rattle.law_tp4_pair.proofs.Resting.{level_rests}
 use Rattle.law_recovery_steps.specs.Directions.{Rides}
 use Rattle.tp4_number.specs.Expedited.{Ea_comes, Ed_comes, LeadsUrgently, Resends_ed, Sends_ed, Ticks, Urgent, UrgentEvent, quiet, urgently}
 use Rattle.law_tp4_history.proofs.Outstanding.{urgently_more}
 use Rattle.law_tp4_recovery.specs.Urgent.{Asks, Asks_again, Ea_arrives, Ed_arrives, GoOn, Late_ea, Late_ed, Passes, UrgentMove, UrgentRoad, gone_on}
-use Rattle.law_recovery_steps.specs.Asking.{UrgentAside, urgent_road}
+use Rattle.law_recovery_steps.specs.Asking.{urgent_road}
 use Rattle.law_recovery_steps.specs.Quieting.{IsYoung}
 use Rattle.law_recovery_steps.specs.Urging.{AreQuiet, Urges}
+use Rattle.law_recovery_steps.proofs.Sending.{no_aks, no_dts, none_in}
 use Rattle.law_recovery_steps.proofs.Quieting.{eds_rest, eds_young}
 use Rattle.law_recovery_steps.specs.Resting.{AreBegun, AreLater, HaveWindow, AreLevel, IsBegun, IsLevel, since, IsAskedAt}
 use Rattle.law_recovery_steps.specs.Sending.{aks_on, dts_on}
 use Rattle.law_recovery_steps.specs.Steps.{AreRiding, IsParted, IsRiding, Since}
-use Rattle.law_recovery_steps.proofs.Pairs.{clock_by, leads_on, parted_after, steps_on}
-
-level_rests : (s : FlowSender) (h : Half) → s.is_open ≡ true → IsSettled s → s.numbers.base ≡ h.receiver.expected → s.numbers.next ≡ h.receiver.expected → s.numbers.credit ≡ h.receiver.inbox.credit
-    → s.urgent.out ≡ None → s.urgent.next ≡ h.receiver.urgent → IsAtRest s h
-level_rests s h is_open settled base next credit out urgent =
-    let expedited = expedited_left s s.urgent.units (λ waits. record { is_open = is_open; waits = waits; held = settled.urgent waits }) out in
-    record {
-      base = base;
-      next = next;
-      credit = credit;
-      out = out;
-      urgent = urgent;
-      expedited = expedited;
-      normal = elim expedited [
-        | inl none ↦ normal_left s h is_open settled none (omega (arith, base, credit)) next
-        | inr held ↦ By_ed held
-      ];
-    }
+use Rattle.law_recovery_steps.proofs.Pairs.{back_clock, clock_by, forth_clock, leads_on, parted_after, steps_on}
 
 -- ---- it begins
 
@@ -58,10 +40,11 @@ none_there {X} l x e c =
     let there : Contains [] x = subst (λ (m : List X). Contains m x) e c in
     omega (arith, there.1)
 
-begins : (life size now : ℕ) (s : FlowSender) (h : Half) (acked : ℕ) (b : IsBegun life size now s h acked) → Rides life size (now + 1) (now + 1) (since life now s h b.aside b.asked.urgent).road s h [] [] acked
-begins life size now s h acked b = record {
+-- a direction rides from the road that it stands on
+rides_from : (life size now tick : ℕ) (s : FlowSender) (h : Half) (acked : ℕ) (b : IsBegun life size now s h acked) (old : Road) → road_of tick s.numbers h b.aside ≡ old → Rides life size (now + 1) tick old s h [] [] acked
+rides_from life size now tick s h acked b old same = record {
   aside = b.aside;
-  goes = record { moves = []; are = λ i. record { traffic = (road_of (now + 1) s.numbers h b.aside).traffic; dts = b.no_dts i; aks = b.no_aks i } };
+  goes = record { moves = []; are = same };
   format = b.format;
   places = b.places;
   fits = b.fits;
@@ -75,23 +58,22 @@ begins life size now s h acked b = record {
   spoke = b.spoke;
 }
 
-none_in : (e : ℕ × ℕ) → Contains [] e → ⊥
-none_in e c = omega (arith, c.1)
+begins : (life size now : ℕ) (s : FlowSender) (h : Half) (acked : ℕ) (b : IsBegun life size now s h acked) → Rides life size (now + 1) (now + 1) (since life now s h b.aside b.asked.urgent).road s h [] [] acked
+begins life size now s h acked b =
+    rides_from life size now (now + 1) s h acked b (since life now s h b.aside b.asked.urgent).road (λ i. record { traffic = (road_of (now + 1) s.numbers h b.aside).traffic; dts = b.no_dts i; aks = b.no_aks i })
 
--- with its EDs
-abbrev asked_road : ℕ → FlowSender → Half → Urgent → UrgentAside
-asked_road now s h v = record { sends = v.sends; answers = v.answers; eds = []; eas = [] }
-
-begins_eds : (life size now : ℕ) (s : FlowSender) (h : Half) (acked : ℕ) (b : IsBegun life size now s h acked) → Urges life (now + 1) (now + 1) (since life now s h b.aside b.asked.urgent).urgent s h [] []
-begins_eds life size now s h acked b =
+-- with its EDs, whose clock is now or later
+urges_from : (life size now : ℕ) (s : FlowSender) (h : Half) (acked : ℕ) (b : IsBegun life size now s h acked) (clock : ℕ → ℕ)
+    → Urges life (now + 1) (clock now) (record { urgent = record b.asked.urgent { clock = clock b.asked.urgent.clock }; eds = []; eas = [] }) s h [] []
+urges_from life size now s h acked b clock =
     let a : IsAskedAt life now s h = b.asked in
     record {
-      aside = asked_road now s h a.urgent;
+      aside = record { sends = a.urgent.sends; answers = a.urgent.answers; eds = []; eas = [] };
       base = a.urgent.base;
       goes = record {
         moves = [];
         are = λ i. record {
-          urgent = record { clock = (sym a.clock i) + 1; base = a.urgent.base; next = sym a.next i; blocks = sym a.blocks i; sends = a.urgent.sends; expected = sym a.expected i; answers = a.urgent.answers };
+          urgent = record { clock = clock (sym a.clock i); base = a.urgent.base; next = sym a.next i; blocks = sym a.blocks i; sends = a.urgent.sends; expected = sym a.expected i; answers = a.urgent.answers };
           eds = [];
           eas = [];
         };
@@ -114,8 +96,12 @@ module _ (life size : ℕ) (p : Pair) (o q : InOpened) (b : AreBegun life size p
   abbrev pub other_since : Since
   other_since = since life p.clock q.halves.sending o.halves.receiving b.here.aside b.here.asked.urgent
 
-  pub begins_riding : AreRiding life size (p.clock + 1) (p.clock + 1) one_since other_since (party p.calling.base) (party p.called.base) o q [] []
-  begins_riding = record {
+  -- both ride from those roads
+  riding_from : (tick : ℕ) (one other : Since) → Rides life size (p.clock + 1) tick one.road o.halves.sending q.halves.receiving [] [] q.acked
+      → Rides life size (p.clock + 1) tick other.road q.halves.sending o.halves.receiving [] [] o.acked
+      → Urges life (p.clock + 1) tick one.urgent o.halves.sending q.halves.receiving [] [] → Urges life (p.clock + 1) tick other.urgent q.halves.sending o.halves.receiving [] []
+      → AreRiding life size (p.clock + 1) tick (record one { rules = o.halves.sending.rules }) (record other { rules = q.halves.sending.rules }) (party p.calling.base) (party p.called.base) o q [] []
+  riding_from tick one other there here there_eds here_eds = record {
     options = b.options;
     their_options = b.their_options;
     ours = b.ours;
@@ -123,36 +109,20 @@ module _ (life size : ℕ) (p : Pair) (o q : InOpened) (b : AreBegun life size p
     sum = b.sum;
     forth_are = tt;
     back_are = tt;
-    there = begins life size p.clock o.halves.sending q.halves.receiving q.acked b.there;
-    here = begins life size p.clock q.halves.sending o.halves.receiving o.acked b.here;
-    there_eds = begins_eds life size p.clock o.halves.sending q.halves.receiving q.acked b.there;
-    here_eds = begins_eds life size p.clock q.halves.sending o.halves.receiving o.acked b.here;
+    there = there;
+    here = here;
+    there_eds = there_eds;
+    here_eds = here_eds;
   }
+
+  pub begins_riding : AreRiding life size (p.clock + 1) (p.clock + 1) one_since other_since (party p.calling.base) (party p.called.base) o q [] []
+  begins_riding = riding_from (p.clock + 1) one_since other_since (begins life size p.clock o.halves.sending q.halves.receiving q.acked b.there) (begins life size p.clock q.halves.sending o.halves.receiving o.acked b.here)
+      (urges_from life size p.clock o.halves.sending q.halves.receiving q.acked b.there (λ n. n + 1)) (urges_from life size p.clock q.halves.sending o.halves.receiving o.acked b.here (λ n. n + 1))
 
 -- ---- it rests
 
-pub no_dts : (block : ℕ) (l : List (ℕ × ℕ)) → [] ≡ dts_on block l → l ≡ []
-no_dts block [] e = refl
-no_dts block (d ∷ l) e = absurd (cc e)
-
-pub no_aks : (block : ℕ) (l : List Answer) → [] ≡ aks_on block l → l ≡ []
-no_aks block [] e = refl
-no_aks block (a ∷ l) e = absurd (cc e)
-
 pub past_for : (life size : ℕ) (s t : FlowSender) (w : Traffic) → t.rules ≡ s.rules → IsPast life size s w → IsPast life size t w
-past_for life size s t w e p = subst (λ (f : FlowRules). IsPast life size (record t { rules = f }) w) (sym e) (record {
-  fit = p.fit;
-  tick = p.tick;
-  credit = p.credit;
-  places = p.places;
-  room = p.room;
-  credit_low = p.credit_low;
-  room_low = p.room_low;
-  events = p.events;
-  leads = p.leads;
-  views = p.views;
-  fits = p.fits;
-})
+past_for life size s t w e p = record { reached = subst (λ (f : FlowRules). WasReached (rules_by life f) w) (sym e) p.reached; fits = p.fits }
 
 level_in : (life size t1 window now acked : ℕ) (w : Traffic) (s : FlowSender) (h : Half) → IsPast life size s w
     → Rides life size (w.clock + 1) now (record { traffic = after (rules_by life s.rules) w Tick; dts = []; aks = [] }) s h [] [] acked
@@ -184,6 +154,8 @@ quiet_in life size t1 p_clock now s t h k acked b same r young late =
 pub rides_level : (life size t1 window : ℕ) (p : Pair) (o q : InOpened) (last : Pair) (b : AreBegun life size p o q) → o.halves.sending.rules.t1 ≡ t1 → q.halves.sending.rules.t1 ≡ t1 → HaveWindow window last
     → IsIdle last → AreLater last → p.clock + max t1 window ≤ last.clock → IsRiding life size (p.clock + 1) (one_since life size p o q b) (other_since life size p o q b) last → AreLevel last
 rides_level life size t1 window p o q last b one_t1 other_t1 windows idle later late r =
+    let one : Since = one_since life size p o q b in
+    let other : Since = other_since life size p o q b in
     let both : AreRiding life size (p.clock + 1) last.clock one other (party last.calling.base) (party last.called.base) r.o r.q [] [] =
     subst (λ (l : List Sent). AreRiding life size (p.clock + 1) last.clock one other (party last.calling.base) (party last.called.base) r.o r.q l []) idle.forth
     (subst (λ (l : List Sent). AreRiding life size (p.clock + 1) last.clock one other (party last.calling.base) (party last.called.base) r.o r.q last.forth l) idle.back r.both) in
@@ -213,12 +185,6 @@ rides_level life size t1 window p o q last b one_t1 other_t1 windows idle later 
           (subst (λ (t : ℕ). AreYoung t last.clock r.q.halves.sending.window) theirs_t1 theirs.young) (omega (arith, mine.spoke, (windows r.o r.q r.calling r.called).0)) late
           (quiet_in life size t1 p.clock last.clock q.halves.sending r.q.halves.sending o.halves.receiving r.o.halves.receiving o.acked b.here both.theirs.sending both.here_eds their_young (omega (arith, late)));
     }
-  where
-    one : Since
-    one = since life p.clock o.halves.sending q.halves.receiving b.there.aside b.there.asked.urgent
-
-    other : Since
-    other = since life p.clock q.halves.sending o.halves.receiving b.here.aside b.here.asked.urgent
 
 -- from the next tick on
 ticks_rest : (life size t1 window : ℕ) (p : Pair) (o q : InOpened) (calling called : Bool) (happenings : List Happening) (last : Pair) → AreBegun life size p o q
@@ -226,6 +192,8 @@ ticks_rest : (life size t1 window : ℕ) (p : Pair) (o q : InOpened) (calling ca
     → Leads p (Clock calling called ∷ happenings) last → IsIdle last → AreLater last → p.clock + max t1 window ≤ last.clock
     → IsParted last ⊎ AreLevel last
 ticks_rest life size t1 window p o q calling called happenings last b one_t1 other_t1 windows leads idle later late =
+    let one : Since = one_since life size p o q b in
+    let other : Since = other_since life size p o q b in
     elim (clock_by life size (p.clock + 1) one other p o q b.calling b.called b.idle (begins_riding life size p o q b) calling called) [
       | inl left ↦ inl (parted_after (next p (Clock calling called)) last happenings left leads.1)
       | inr on ↦ elim (leads_on life size (p.clock + 1) one other (next p (Clock calling called)) happenings last on leads.1) [
@@ -233,59 +201,12 @@ ticks_rest life size t1 window p o q calling called happenings last b one_t1 oth
         | inr r ↦ inr (rides_level life size t1 window p o q last b one_t1 other_t1 windows idle later late r)
       ]
     ]
-  where
-    one : Since
-    one = since life p.clock o.halves.sending q.halves.receiving b.there.aside b.there.asked.urgent
-
-    other : Since
-    other = since life p.clock q.halves.sending o.halves.receiving b.here.aside b.here.asked.urgent
 
 -- ---- before the next tick
 
 -- a direction from now on
 abbrev from_now : ℕ → FlowSender → Half → Aside → Urgent → Since
 from_now now s h x v = record { road = road_of now s.numbers h x; urgent = record { urgent = v; eds = []; eas = [] }; rules = s.rules }
-
-holds : (life size now : ℕ) (s : FlowSender) (h : Half) (acked : ℕ) (b : IsBegun life size now s h acked) → Rides life size (now + 1) now (from_now now s h b.aside b.asked.urgent).road s h [] [] acked
-holds life size now s h acked b = record {
-  aside = b.aside;
-  goes = record { moves = []; are = refl };
-  format = b.format;
-  places = b.places;
-  fits = b.fits;
-  fed = b.fed;
-  settled = b.settled;
-  tried = b.tried;
-  dts_are = ap (dts_on (block_in s)) (sym b.no_dts);
-  aks_are = ap (aks_on (block_in s)) (sym b.no_aks);
-  dts_now = λ e c. absurd (none_there b.aside.dts e b.no_dts c);
-  aks_now = λ a c. absurd (none_there b.aside.aks a b.no_aks c);
-  spoke = b.spoke;
-}
-
-holds_eds : (life size now : ℕ) (s : FlowSender) (h : Half) (acked : ℕ) (b : IsBegun life size now s h acked) → Urges life (now + 1) now (from_now now s h b.aside b.asked.urgent).urgent s h [] []
-holds_eds life size now s h acked b =
-    let a : IsAskedAt life now s h = b.asked in
-    record {
-      aside = asked_road now s h a.urgent;
-      base = a.urgent.base;
-      goes = record {
-        moves = [];
-        are = λ i. record {
-          urgent = record { clock = sym a.clock i; base = a.urgent.base; next = sym a.next i; blocks = sym a.blocks i; sends = a.urgent.sends; expected = sym a.expected i; answers = a.urgent.answers };
-          eds = [];
-          eas = [];
-        };
-      };
-      base_is = a.base_is;
-      unit = a.unit;
-      format = b.format;
-      eds_are = refl;
-      eas_are = refl;
-      eds_now = λ e c. absurd (none_in e c);
-      eas_now = λ e c. absurd (none_in e c);
-      tried = a.tried;
-    }
 
 -- what happens on the road are events of its EDs and EAs
 urgent_after : (rules : Rules) (tick u : ℕ) (old new : UrgentRoad) (moves : List UrgentMove) → GoOn rules u old moves new → (events : List UrgentEvent) → LeadsUrgently rules (quiet tick) events old.urgent
@@ -343,16 +264,18 @@ again life size now acked s t h k x before e r asked =
       no_dts = no_dts (block_in t) r.aside.dts r.dts_are;
       no_aks = no_aks (block_in t) r.aside.aks r.aks_are;
       past = record {
-        fit = p.fit;
-        tick = st.reached.tick;
-        credit = st.reached.credit;
-        places = st.reached.size;
-        room = st.reached.room;
-        credit_low = st.reached.credit_low;
-        room_low = st.reached.room_low;
-        events = st.reached.events;
-        leads = st.reached.leads;
-        views = st.views;
+        reached = record {
+          fit = p.fit;
+          tick = st.reached.tick;
+          credit = st.reached.credit;
+          places = st.reached.size;
+          room = st.reached.room;
+          credit_low = st.reached.credit_low;
+          room_low = st.reached.room_low;
+          events = st.reached.events;
+          leads = st.reached.leads;
+          views = st.views;
+        };
         fits = record { places = r.fits.places ∙ sym r.places; room = omega (arith, r.fits.room, r.places); free = r.fits.free };
       };
       format = r.format;
@@ -382,19 +305,10 @@ module _ (life size : ℕ) (p : Pair) (o q : InOpened) (b : AreBegun life size p
     calling = b.calling;
     called = b.called;
     both = subst (λ (l : List Sent). AreRiding life size (p.clock + 1) p.clock one other (party p.calling.base) (party p.called.base) o q l p.back) (sym b.idle.forth)
-        (subst (λ (l : List Sent). AreRiding life size (p.clock + 1) p.clock one other (party p.calling.base) (party p.called.base) o q [] l) (sym b.idle.back) (record {
-          options = b.options;
-          their_options = b.their_options;
-          ours = b.ours;
-          theirs = b.theirs;
-          sum = b.sum;
-          forth_are = tt;
-          back_are = tt;
-          there = holds life size p.clock o.halves.sending q.halves.receiving q.acked b.there;
-          here = holds life size p.clock q.halves.sending o.halves.receiving o.acked b.here;
-          there_eds = holds_eds life size p.clock o.halves.sending q.halves.receiving q.acked b.there;
-          here_eds = holds_eds life size p.clock q.halves.sending o.halves.receiving o.acked b.here;
-        }));
+        (subst (λ (l : List Sent). AreRiding life size (p.clock + 1) p.clock one other (party p.calling.base) (party p.called.base) o q [] l) (sym b.idle.back)
+        (riding_from life size p o q b p.clock one other (rides_from life size p.clock p.clock o.halves.sending q.halves.receiving q.acked b.there one.road refl)
+        (rides_from life size p.clock p.clock q.halves.sending o.halves.receiving o.acked b.here other.road refl) (urges_from life size p.clock o.halves.sending q.halves.receiving q.acked b.there (λ n. n))
+        (urges_from life size p.clock q.halves.sending o.halves.receiving o.acked b.here (λ n. n))));
   }
 
   -- where nothing waits all is known again
@@ -438,14 +352,6 @@ module _ (life size t1 window : ℕ) (p : Pair) (o q : InOpened) (b : AreBegun l
       ticks_rest life size t1 window mid r.o r.q calling called happenings last (begins_again life size p o q b mid r now leads.0)
       (ap (λ (f : FlowRules). f.t1) same.0 ∙ one_t1) (ap (λ (f : FlowRules). f.t1) same.1 ∙ other_t1) windows leads idle later
       (subst (λ (n : ℕ). n + max t1 window ≤ last.clock) (sym now) late)
-
-  forth_clock : (mid : Pair) (l : List Sent) → (comes_forth mid l).clock ≡ mid.clock
-  forth_clock mid [] = refl
-  forth_clock mid (sent ∷ more) = refl
-
-  back_clock : (mid : Pair) (l : List Sent) → (comes_back mid l).clock ≡ mid.clock
-  back_clock mid [] = refl
-  back_clock mid (sent ∷ more) = refl
 
   goes_on : (happening : Happening) (happenings : List Happening) (mid : Pair) → Holding mid → May mid happening → Leads (next mid happening) happenings last
       → (Holding (next mid happening) → IsParted last ⊎ AreLevel last) → IsParted last ⊎ AreLevel last

@@ -1,9 +1,10 @@
 -- The calls of a sending half: what they put behind what waits is what the road gets.
 use Rattle.std.specs.Prelude.{not, is_some}
 use Rattle.std.specs.List.{sum_by}
-use Rattle.std.proofs.Common.{◌≡◌, ℕ, zero, suc, ◌+◌, ◌-◌, ◌<◌, ◌≤◌, ◌==◌, ◌||◌, nat_le, nat_lt, max, min, true, if◌then◌else◌, List, [], ◌∷◌, ◌++◌, drop, length, length-append, length-drop, Option, Some, None, refl, sym, ◌∙◌, ap, subst, arith, append-nil, append_assoc, Contains}
+use Rattle.std.proofs.Common.{◌≡◌, inr, inl, ℕ, zero, suc, ◌+◌, ◌-◌, ◌<◌, ◌≤◌, ◌==◌, ◌||◌, nat_le, nat_lt, max, min, true, if◌then◌else◌, List, [], ◌∷◌, ◌++◌, drop, length, length-append, length-drop, Option, Some, None, refl, sym, ◌∙◌, ap, subst, arith, append-nil, append_assoc, Contains}
 use Rattle.std.proofs.lemmas.Bool.{and_parts, lt-ltb, ltb-true, not-false}
 use Rattle.std.proofs.lemmas.List.{length-map, length-take}
+use Rattle.std.proofs.lemmas.List.Elements.{Contains-append_left, Contains-push, Contains-push_cases}
 use Rattle.std.proofs.lemmas.List.Sums.{sum_by-append, sum_by-cons}
 use Rattle.tp4_number.specs.declared.blocks.Blocks.{Blocks}
 use Rattle.tp4_number.specs.declared.piece.Piece.{Piece}
@@ -11,14 +12,15 @@ use Rattle.tp4_number.specs.Formats.{block_of}
 use Rattle.tp4_number.specs.Number.{near, wire}
 use Rattle.tp4_number.specs.Sender.{Sender, marked, told}
 use Rattle.tp4_number.specs.Traffic.{Answer}
+use Rattle.tp4_number.proofs.Accounts.{marked_high}
 use Rattle.tp4_number.proofs.Past.{if_kept}
 use Rattle.law_tp4_recovery.specs.Recovering.{Ak_arrives, Move, Moves, Sends}
-use Rattle.tp4_flow.specs.Half.{Half}
+use Rattle.tp4_flow.specs.ReceivingHalf.{Half}
 use Rattle.tp4_flow.specs.declared.rules.FlowRules.{FlowRules}
 use Rattle.tp4_flow.specs.declared.rules.Life.{Life}
 use Rattle.tp4_flow.specs.declared.rules.Life.TheVariants.{Goes, Exhausted}
 use Rattle.tp4_flow.specs.declared.step.Sent.{Sent}
-use Rattle.tp4_sending.specs.FlowSender.{FlowSender, Sendings, acknowledged, acknowledged_to, all_dts, block_in, dts, dts_of, due_numbers, eds, has_next, is_noted, is_outstanding, is_taken, is_urgent, life_of, marked_all, new_sends, normals, normals_where, nothing, one_normal, one_urgent, resends, resends_urgent, resends_urgent_as, rule_allows, sent_normal, submitted, then_sends, ticked, ticked_as, urged, urgent_done}
+use Rattle.tp4_sending.specs.SendingHalf.{FlowSender, Sendings, acknowledged, acknowledged_to, all_dts, block_in, dts, dts_of, due_numbers, eds, has_next, is_noted, is_outstanding, is_taken, is_urgent, life_of, marked_all, new_sends, normals, normals_where, nothing, one_normal, one_urgent, resends, resends_urgent, resends_urgent_as, rule_allows, sent_normal, submitted, then_sends, ticked, ticked_as, urged, urgent_done}
 use Rattle.tp4_sending.specs.Pieces.{Queue, again, count_in, cut_at, end_of, freed_by, is_due, once}
 use Rattle.tp4_sending.specs.declared.tries.Tries.{Tries}
 use Rattle.tp4_sending.proofs.Advances.{taken_from}
@@ -28,11 +30,12 @@ use Rattle.law_recovery_pair.specs.Riding.{Aside, GoesOn, road_of, rules_by, sen
 use Rattle.law_recovery_pair.proofs.RidingSends.{AreWithin, IsAlike, due_within, moves_then, regroup, sent_at_then, told_same}
 use Rattle.law_recovery_pair.proofs.Viewing.{told_is}
 use Rattle.law_recovery_ends.specs.Due.{AreTried}
+use Rattle.law_tp4_moves.proofs.FlowOut.{shown-append}
 use Rattle.law_tp4_moves.specs.Lines.{shown_in}
 use Rattle.law_tp4_pair.specs.steps.Carrying.{pieces_in}
 use Rattle.law_tp4_pair.specs.steps.Waiting.{AreData, View, aks_in, dts_in, eas_in}
 use Rattle.law_tp4_pair.proofs.Carried.{pieces_then}
-use Rattle.law_tp4_pair.proofs.Wires.{aks_then, data_then, dts_then, eas_then, shown_then}
+use Rattle.law_tp4_pair.proofs.Wires.{aks_then, data_then, dts_then, eas_then}
 use Rattle.law_recovery_steps.specs.Sending.{AreCut, GoesOut, IsCutFrom, IsFed, aks_on, dts_on}
 use Rattle.law_recovery_steps.proofs.Trying.{again_goes, tried_again, tried_drop, tried_push, tried_take}
 
@@ -45,6 +48,25 @@ dts_on_then block (e ∷ a) b = ap (λ (l : List ℕ). wire block e.0 ∷ l) (dt
 pub aks_on_then : (block : ℕ) (a b : List Answer) → aks_on block (a ++ b) ≡ aks_on block a ++ aks_on block b
 aks_on_then block [] b = refl
 aks_on_then block (e ∷ a) b = ap (λ (l : List View). record { number = wire block e.number; credit = e.credit; subsequence = e.subsequence } ∷ l) (aks_on_then block a b)
+
+-- nothing waits where nothing is seen to wait
+pub no_dts : (block : ℕ) (l : List (ℕ × ℕ)) → [] ≡ dts_on block l → l ≡ []
+no_dts block [] e = refl
+no_dts block (d ∷ l) e = absurd (cc e)
+
+pub no_aks : (block : ℕ) (l : List Answer) → [] ≡ aks_on block l → l ≡ []
+no_aks block [] e = refl
+no_aks block (a ∷ l) e = absurd (cc e)
+
+-- what stands in a list of none, of one, and first
+pub none_in : {X : Type 0} (x : X) → Contains [] x → ⊥
+none_in x c = omega (arith, c.1)
+
+pub one_alone : {X : Type 0} (x y : X) → Contains (x ∷ []) y → x ≡ y
+one_alone x y h = elim (Contains-push_cases [] x y h) [ inl never ↦ absurd (none_in y never) | inr is ↦ is ]
+
+pub first_of : {X : Type 0} (x : X) (rest : List X) → Contains (x ∷ rest) x
+first_of x rest = Contains-append_left (x ∷ []) rest x (Contains-push [] x)
 
 -- ---- pieces
 
@@ -61,11 +83,6 @@ cut_from all s t queue rules cut n low =
     (cut n (subst (λ (q : Queue). q.first ≤ n) (sym queue) low)))
 
 -- ---- a piece for each number
-
-marked_high : (block : ℕ) (b : Blocks) (n now : ℕ) → (marked block b n now).high ≡ max b.high (n + 1)
-marked_high block b n now =
-    if_kept (λ (x : Blocks). x.high ≡ max b.high (n + 1)) (nat_lt n b.first) _ _ (λ _. refl)
-    (λ _. if_kept (λ (x : Blocks). x.high ≡ max b.high (n + 1)) (nat_lt n (b.first + block)) _ _ (λ _. refl) (λ _. refl))
 
 marked_all_high : (block now low high : ℕ) (b : Blocks) (ns : List ℕ) → AreWithin low high ns → high ≤ b.high → (marked_all block now b ns).high ≡ b.high
 marked_all_high block now low high b [] within up = refl
@@ -147,8 +164,11 @@ more_dts s n ns a b one rest = record {
   data_are = data_then s.rules a b one.data_are rest.data_are;
 }
 
+none_sent : (s : FlowSender) → AreDts s [] []
+none_sent s = record { dts = refl; aks = refl; eas = refl; right = λ all c. refl; data_are = tt }
+
 many_dts : (s : FlowSender) (ns : List ℕ) → IsFed s → AreWithin s.numbers.base s.numbers.next ns → AreDts s ns (all_dts s ns)
-many_dts s [] f within = record { dts = refl; aks = refl; eas = refl; right = λ all c. refl; data_are = tt }
+many_dts s [] f within = none_sent s
 many_dts s (n ∷ ns) f within = more_dts s n ns (dts_of s n) (all_dts s ns)
     (numbered_dt s n (omega (arith, f.first, within.0)) (omega (arith, within.1, f.high, f.reach))) (many_dts s ns f within.2)
 
@@ -162,11 +182,11 @@ pub record IsSilent (s : FlowSender) (z : Sendings) : Type 0 where
   quiet : shown_in z.events ≡ []
 
 an_ed : (s : FlowSender) (n : ℕ) (units : List (List ℕ)) → AreDts s [] (eds s n units)
-an_ed s n [] = record { dts = refl; aks = refl; eas = refl; right = λ all c. refl; data_are = tt }
+an_ed s n [] = none_sent s
 an_ed s n (unit ∷ units) = record { dts = refl; aks = refl; eas = refl; right = λ all c. refl; data_are = (record { to = refl; format = refl; sum = refl; kind = refl }, tt) }
 
 same : (s : FlowSender) → IsSilent s (nothing s)
-same s = record { alike = record { rules = refl; clock = refl; numbers = refl }; is_open = refl; window = refl; queue = refl; sent = record { dts = refl; aks = refl; eas = refl; right = λ all c. refl; data_are = tt }; quiet = refl }
+same s = record { alike = record { rules = refl; clock = refl; numbers = refl }; is_open = refl; window = refl; queue = refl; sent = none_sent s; quiet = refl }
 
 urgent_silent : (s : FlowSender) → IsSilent s (one_urgent s)
 urgent_silent s =
@@ -174,7 +194,7 @@ urgent_silent s =
     (λ _. if_kept (IsSilent s) (rule_allows s s.urgent.blocks s.urgent.next) _ _
     (λ _. record { alike = record { rules = refl; clock = refl; numbers = refl }; is_open = refl; window = refl; queue = refl; sent = an_ed s s.urgent.next s.urgent.units; quiet = refl })
     (λ _. if_kept (IsSilent s) (is_noted s.urgent.noted s.urgent.next) _ _ (λ _. same s)
-    (λ _. record { alike = record { rules = refl; clock = refl; numbers = refl }; is_open = refl; window = refl; queue = refl; sent = record { dts = refl; aks = refl; eas = refl; right = λ all c. refl; data_are = tt }; quiet = refl })))
+    (λ _. record { alike = record { rules = refl; clock = refl; numbers = refl }; is_open = refl; window = refl; queue = refl; sent = none_sent s; quiet = refl })))
 
 pub again_silent : (s : FlowSender) (out : Option Tries) → IsSilent s (resends_urgent_as out s)
 again_silent s None = same s
@@ -260,7 +280,7 @@ module _ (life size u : ℕ) where
         right = λ all cut. right all a.ns c.ns (a.right all (cut_from all z.sender v.sender queue c.rules cut))
             (subst (λ (now : ℕ). AreCut s.rules.piece all (sent_at now c.ns) (pieces_in v.tpdus)) a.clock (subst (λ (r : FlowRules). AreCut r.piece all (sent_at z.sender.clock c.ns) (pieces_in v.tpdus)) a.rules (c.right all cut)));
         data_are = data_then s.rules z.tpdus v.tpdus a.data_are (subst (λ (r : FlowRules). AreData r v.tpdus) a.rules c.data_are);
-        quiet = shown_then z.events v.events ∙ (λ i. a.quiet i ++ c.quiet i);
+        quiet = shown-append z.events v.events ∙ (λ i. a.quiet i ++ c.quiet i);
       }
     where
       right : (all : List (List ℕ)) (ns ms : List ℕ) → AreCut s.rules.piece all (sent_at s.clock ns) (pieces_in z.tpdus) → AreCut s.rules.piece all (sent_at s.clock ms) (pieces_in (next z.sender).tpdus)
@@ -269,24 +289,32 @@ module _ (life size u : ℕ) where
           (subst (AreCut s.rules.piece all (sent_at s.clock ns ++ sent_at s.clock ms)) (sym (pieces_then z.tpdus (next z.sender).tpdus))
           (cut_then s.rules.piece all (sent_at s.clock ns) (sent_at s.clock ms) (pieces_in z.tpdus) (pieces_in (next z.sender).tpdus) f g))
 
+  -- DTs with these numbers go, and the half goes on to t
+  sent_out : (s t : FlowSender) (h : Half) (x y : Aside) (ns : List ℕ) (tpdus : List Sent) → AreDts s ns tpdus → GoesOn (rules_by life s.rules) size u (road_of s.clock s.numbers h x) (road_of s.clock t.numbers h (sent_aside y (sent_at s.clock ns)))
+      → IsFed (record t { rules = s.rules; clock = s.clock }) → ((sends : List (ℕ × ℕ)) → AreTried u s.numbers.base s.window sends → AreTried u t.numbers.base t.window (sends ++ sent_at s.clock ns))
+      → ((all : List (List ℕ)) → IsCutFrom all (record t { rules = s.rules }) → AreCut s.rules.piece all (sent_at s.clock ns) (pieces_in tpdus))
+      → Out s h x y (record { sender = record t { rules = s.rules; clock = s.clock }; events = []; tpdus = tpdus })
+  sent_out s t h x y ns tpdus sent goes fed tried right = record {
+    ns = ns;
+    goes = goes;
+    rules = refl;
+    clock = refl;
+    fed = fed;
+    tried = tried;
+    dts = sent.dts;
+    aks = sent.aks;
+    eas = sent.eas;
+    right = right;
+    data_are = sent.data_are;
+    quiet = refl;
+  }
+
   one : (s : FlowSender) (h : Half) (x : Aside) → IsFed s → s.numbers.next < s.numbers.base + s.numbers.credit → s.numbers.next < end_of s.rules.piece s.queue → rule_allows s s.numbers.blocks s.numbers.next ≡ true
       → Out s h x x (one_normal s)
   one s h x f below there rule =
       let sent = numbered_dt s s.numbers.next (omega (arith, f.first, f.window)) there in
-      record {
-        ns = s.numbers.next ∷ [];
-        goes = record { moves = Sends ∷ []; are = ((below, rule), refl) };
-        rules = refl;
-        clock = refl;
-        fed = sent_fed s f there;
-        tried = λ sends d. tried_push u s.numbers.base s.clock s.numbers.next s.window sends f.window d;
-        dts = sent.dts;
-        aks = sent.aks;
-        eas = sent.eas;
-        right = sent.right;
-        data_are = sent.data_are;
-        quiet = refl;
-      }
+      sent_out s (sent_normal s) h x x (s.numbers.next ∷ []) (dts_of s s.numbers.next) sent (record { moves = Sends ∷ []; are = ((below, rule), refl) }) (sent_fed s f there)
+      (λ sends d. tried_push u s.numbers.base s.clock s.numbers.next s.window sends f.window d) sent.right
 
   normals_out : (fuel : ℕ) (s : FlowSender) (h : Half) (x : Aside) → IsFed s → Out s h x x (normals fuel s)
   normals_out zero s h x f = silent s h x (nothing s) f (same s)
@@ -298,7 +326,7 @@ module _ (life size u : ℕ) where
       (λ rule. seq s h x x (one_normal s) (normals fuel) (one s h x f (ltb-true _ _ parts.0) (ltb-true _ _ parts.1) rule) (normals_queue fuel (sent_normal s))
       (λ k. normals_out fuel (sent_normal s) h k (sent_fed s f (ltb-true _ _ parts.1))))
       (λ _. if_kept (Out s h x x) (is_noted s.noted s.numbers.next) _ _ (λ _. silent s h x (nothing s) f (same s))
-      (λ _. silent s h x _ f (record { alike = record { rules = refl; clock = refl; numbers = refl }; is_open = refl; window = refl; queue = refl; sent = record { dts = refl; aks = refl; eas = refl; right = λ all c. refl; data_are = tt }; quiet = refl }))))
+      (λ _. silent s h x _ f (record { alike = record { rules = refl; clock = refl; numbers = refl }; is_open = refl; window = refl; queue = refl; sent = none_sent s; quiet = refl }))))
 
   where_out : (s : FlowSender) (h : Half) (x : Aside) → IsFed s → Out s h x x (normals_where s)
   where_out s h x f = if_kept (Out s h x x) (is_urgent s) _ _ (λ _. silent s h x (nothing s) f (same s)) (λ _. normals_out (end_of s.rules.piece s.queue - s.numbers.next) s h x f)
@@ -365,37 +393,14 @@ module _ (life size u : ℕ) where
       let is = told_is s n a.credit a.subsequence taken in
       let t : FlowSender = acknowledged_to s n a.credit a.subsequence in
       let fed = heard_fed s n a.credit a.subsequence f taken in
-      let heard : Out s h x y (nothing t) = record {
-        ns = [];
-        goes = record { moves = move ∷ []; are = ended t.numbers first };
-        rules = refl;
-        clock = refl;
-        fed = fed;
-        tried = λ sends d. subst (AreTried u t.numbers.base t.window) (sym (append-nil sends))
-            (subst (λ (k : ℕ). AreTried u k t.window sends) (at_base (ap (λ (m : Sender). m.base) is))
-            (tried_take u (t.numbers.next - n) (s.numbers.base + (n - s.numbers.base)) (drop (n - s.numbers.base) s.window) sends (tried_drop u (n - s.numbers.base) s.numbers.base s.window sends d)));
-        dts = refl;
-        aks = refl;
-        eas = refl;
-        right = λ all c. refl;
-        data_are = tt;
-        quiet = refl;
-      } in
+      let heard : Out s h x y (nothing t) = sent_out s t h x y [] [] (none_sent s) (record { moves = move ∷ []; are = ended t.numbers first }) fed
+      (λ sends d. subst (AreTried u t.numbers.base t.window) (sym (append-nil sends))
+      (subst (λ (k : ℕ). AreTried u k t.window sends) (at_base (ap (λ (m : Sender). m.base) is))
+      (tried_take u (t.numbers.next - n) (s.numbers.base + (n - s.numbers.base)) (drop (n - s.numbers.base) s.window) sends (tried_drop u (n - s.numbers.base) s.numbers.base s.window sends d)))) (λ all c. refl) in
       seq s h x y (nothing t) new_sends heard (new_queue t) (λ k. new_out t h k fed))
-      (λ no. record {
-        ns = [];
-        goes = record { moves = move ∷ []; are = ended s.numbers (subst (λ (m : Sender). Moves (rules_by life s.rules) size u (road_of s.clock s.numbers h x) (move ∷ []) (road_of s.clock m h y)) (told_same s n a.credit a.subsequence no) first) };
-        rules = refl;
-        clock = refl;
-        fed = f;
-        tried = λ sends d. subst (AreTried u s.numbers.base s.window) (sym (append-nil sends)) d;
-        dts = refl;
-        aks = refl;
-        eas = refl;
-        right = λ all c. refl;
-        data_are = tt;
-        quiet = refl;
-      })
+      (λ no. sent_out s s h x y [] [] (none_sent s)
+      (record { moves = move ∷ []; are = ended s.numbers (subst (λ (m : Sender). Moves (rules_by life s.rules) size u (road_of s.clock s.numbers h x) (move ∷ []) (road_of s.clock m h y)) (told_same s n a.credit a.subsequence no) first) }) f
+      (λ sends d. subst (AreTried u s.numbers.base s.window) (sym (append-nil sends)) d) (λ all c. refl))
     where
       n : ℕ
       n = near (block_in s) s.numbers.base (wire (block_in s) a.number)
@@ -418,20 +423,8 @@ module _ (life size u : ℕ) where
   again_out s h x f =
       let within = due_within s.rules.t1 s.clock s.numbers.base s.numbers.next s.numbers.base s.window (omega arith) (omega (arith, f.window)) in
       let sent = many_dts s (due_numbers s) f within in
-      record {
-        ns = due_numbers s;
-        goes = again_goes life size u s.rules s.clock (due_numbers s) s.numbers h x within;
-        rules = refl;
-        clock = refl;
-        fed = again_fed s f within;
-        tried = λ sends d. tried_again u s.rules.t1 s.clock s.numbers.base s.window sends d;
-        dts = sent.dts;
-        aks = sent.aks;
-        eas = sent.eas;
-        right = sent.right;
-        data_are = sent.data_are;
-        quiet = refl;
-      }
+      sent_out s (resends s).sender h x x (due_numbers s) (all_dts s (due_numbers s)) sent (again_goes life size u s.rules s.clock (due_numbers s) s.numbers h x within) (again_fed s f within)
+      (λ sends d. tried_again u s.rules.t1 s.clock s.numbers.base s.window sends d) sent.right
 
   ticks_out : (s : FlowSender) (h : Half) (x : Aside) (goes : Life) → IsFed s → Out s h x x (ticked_as goes s)
   ticks_out s h x Exhausted f = silent s h x (nothing s) f (same s)

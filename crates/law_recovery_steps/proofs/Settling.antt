@@ -4,7 +4,7 @@ use Rattle.tp4_number.specs.Number.{near}
 use Rattle.tp4_number.proofs.Past.{if_kept}
 use Rattle.tp4_flow.specs.declared.rules.Life.{Life}
 use Rattle.tp4_flow.specs.declared.rules.Life.TheVariants.{Goes, Exhausted}
-use Rattle.tp4_sending.specs.FlowSender.{FlowSender, Sendings, acknowledged, acknowledged_to, block_in, is_outstanding, is_taken, life_of, resends, resends_urgent_as, submitted, ticked, ticked_as, urged, urgent_done}
+use Rattle.tp4_sending.specs.SendingHalf.{FlowSender, Sendings, acknowledged, acknowledged_to, block_in, is_outstanding, is_taken, life_of, resends, resends_urgent_as, submitted, ticked, ticked_as, urged, urgent_done}
 use Rattle.tp4_sending.specs.Settled.{IsSettled}
 use Rattle.tp4_sending.proofs.Settles.{new_settled}
 use Rattle.law_recovery_steps.proofs.Sending.{again_silent}

@@ -1,7 +1,7 @@
 -- What is shown where a direction is at rest.
 use Rattle.std.proofs.Common.{◌≡◌, ℕ, List, [], ◌∷◌, ◌++◌, length, take, Option, refl, sym, ◌∙◌, ap, subst}
-use Rattle.tp4_flow.specs.Half.{Half}
-use Rattle.tp4_sending.specs.FlowSender.{FlowSender}
+use Rattle.tp4_flow.specs.ReceivingHalf.{Half}
+use Rattle.tp4_sending.specs.SendingHalf.{FlowSender}
 use Rattle.tp4_sending.specs.declared.tries.Tries.{Tries}
 use Rattle.script_journal.specs.Lawful.{expediteds}
 use Rattle.law_tp4_pair.specs.Pair.{Account, Pair, back_units, forth_units}

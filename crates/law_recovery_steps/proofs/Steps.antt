@@ -10,13 +10,13 @@ use Rattle.tp4_number.specs.declared.piece.Piece.{Piece}
 use Rattle.tp4_number.specs.Number.{whole}
 use Rattle.tp4_number.specs.Receiver.{Inbox, granted}
 use Rattle.tp4_number.proofs.Past.{if_kept}
-use Rattle.tp4_flow.specs.Half.{Half, Received, ak, allowed, dt_arrival, half_granted, is_before, is_next, taken_dt, taken_ed}
+use Rattle.tp4_flow.specs.ReceivingHalf.{Half, Received, ak, allowed, dt_arrival, half_granted, is_before, is_next, taken_dt, taken_ed}
 use Rattle.tp4_flow.specs.declared.rules.FlowRules.{FlowRules}
 use Rattle.tp4_flow.specs.declared.rules.Life.{Life}
 use Rattle.tp4_flow.specs.declared.rules.Life.TheVariants.{Goes, Exhausted}
 use Rattle.tp4_flow.specs.declared.step.Sent.{Sent}
 use Rattle.tpdu.specs.declared.service.EndTold.TheVariants.{Window as WindowTold}
-use Rattle.tp4_sending.specs.FlowSender.{Sendings, acknowledged, at, life_of, submitted, ticked, urged, urgent_done}
+use Rattle.tp4_sending.specs.SendingHalf.{Sendings, acknowledged, at, life_of, submitted, ticked, urged, urgent_done}
 use Rattle.tp4_conn.specs.declared.call.UserCall.{UserCall}
 use Rattle.tp4_conn.specs.declared.call.UserCall.TheVariants.{Normal, Urgent, Window, Disconnect}
 use Rattle.tp4_conn.specs.declared.end_record.EndRecord.{EndRecord}
@@ -28,22 +28,13 @@ use Rattle.tp4_conn.specs.Table.{at as now_at, on_call, on_tick, on_tpdu, takes,
 use Rattle.law_tp4_pair.specs.steps.Standing.{Party, party}
 use Rattle.law_tp4_pair.specs.steps.Waiting.{AreData, View, aks_in, dts_in, eas_in, eds_in}
 use Rattle.law_tp4_pair.proofs.Acting.{agreed_on}
-use Rattle.law_tp4_pair.proofs.Handing.{has_sum}
+use Rattle.law_tp4_pair.proofs.Handing.{has_sum, kept_fits, old_fits, outside_fits}
 use Rattle.law_tp4_pair.proofs.Wires.{aks_then, data_then, dts_then, eas_then, eds_then}
 use Rattle.law_recovery_steps.specs.Directions.{Rides, RidesOn}
 use Rattle.law_recovery_steps.specs.Urging.{Urges}
 use Rattle.law_recovery_steps.specs.Steps.{AreRiding, RidesOnward, Since}
 use Rattle.law_recovery_steps.proofs.Directions.{aks_ride, answered, calls_ride, dts_ride, eds_ride, grants_ride, repeats_ride, same_ride}
 use Rattle.law_recovery_steps.proofs.Urging.{calls_urge, eas_urge, eds_urge, half_urge}
-
-kept_fits : Kept ≡ TooLarge → ⊥
-kept_fits e = cc e
-
-old_fits : Old ≡ TooLarge → ⊥
-old_fits e = cc e
-
-outside_fits : Outside ≡ TooLarge → ⊥
-outside_fits e = cc e
 
 -- a credit that is not changed changes nothing
 granted_same : (inbox : Inbox) (credit : ℕ) → (granted inbox credit).credit ≡ inbox.credit → granted inbox credit ≡ inbox

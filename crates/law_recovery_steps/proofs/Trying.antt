@@ -5,9 +5,9 @@ use Rattle.tp4_number.specs.Formats.{block_of}
 use Rattle.tp4_number.specs.Sender.{Sender, marked}
 use Rattle.law_tp4_recovery.specs.Recovering.{Moves, Resends}
 use Rattle.law_tp4_recovery.proofs.Keeping.{later_too}
-use Rattle.tp4_flow.specs.Half.{Half}
+use Rattle.tp4_flow.specs.ReceivingHalf.{Half}
 use Rattle.tp4_flow.specs.declared.rules.FlowRules.{FlowRules}
-use Rattle.tp4_sending.specs.FlowSender.{marked_all}
+use Rattle.tp4_sending.specs.SendingHalf.{marked_all}
 use Rattle.tp4_sending.specs.Pieces.{again, due_from, is_due, once, resent}
 use Rattle.tp4_sending.specs.declared.tries.Tries.{Tries}
 use Rattle.law_recovery_pair.specs.Riding.{Aside, GoesOn, road_of, rules_by, sent_aside, sent_at}

@@ -1,43 +1,28 @@
 -- EDs and EAs of one direction go on, by the moves of its halves.
 use Rattle.std.proofs.Common.{◌≡◌, inl, inr, ℕ, ◌+◌, ◌*◌, ◌==◌, ◌||◌, Bool, true, false, if◌then◌else◌, List, [], ◌∷◌, ◌++◌, refl, sym, ◌∙◌, ap, subst, arith, append-nil, Contains}
 use Rattle.std.proofs.Math.Nat.{mod-add-mod}
-use Rattle.std.proofs.lemmas.List.Elements.{Contains-append_left, Contains-append_right, Contains-append_cases, Contains-push, Contains-push_cases}
+use Rattle.std.proofs.lemmas.List.Elements.{Contains-append_left, Contains-append_right, Contains-append_cases}
 use Rattle.tpdu.specs.declared.tpdu.Format.{Format}
 use Rattle.tp4_number.specs.Expedited.{Urgent}
 use Rattle.tp4_number.specs.Formats.{block_of}
 use Rattle.tp4_number.specs.Number.{whole, wire}
+use Rattle.law_tp4_recovery.proofs.Keeping.{later_too}
 use Rattle.law_tp4_recovery.specs.Urgent.{Ed_arrives, Passes, UrgentRoad}
-use Rattle.tp4_flow.specs.Half.{Half, block_in as block_there, ea, is_before, is_next, taken_ed}
+use Rattle.tp4_flow.specs.ReceivingHalf.{Half, block_in as block_there, ea, is_before, is_next, taken_ed}
 use Rattle.tp4_flow.specs.declared.rules.FlowRules.{FlowRules}
 use Rattle.tp4_flow.specs.declared.step.Sent.{Sent}
-use Rattle.tp4_sending.specs.FlowSender.{FlowSender, Sendings, acknowledged, at, block_in, submitted, ticked, urged, urgent_done}
+use Rattle.tp4_sending.specs.SendingHalf.{FlowSender, Sendings, acknowledged, at, block_in, submitted, ticked, urged, urgent_done}
 use Rattle.law_recovery_pair.specs.Riding.{rules_by}
 use Rattle.law_tp4_pair.specs.steps.Waiting.{eas_in, eds_in}
 use Rattle.law_recovery_steps.specs.Asking.{AsksOut, GoesUrgently, UrgentAside, asked_aside, urgent_road}
 use Rattle.law_recovery_steps.specs.Sending.{dts_on}
 use Rattle.law_recovery_steps.specs.Urging.{Urges}
 use Rattle.law_recovery_steps.proofs.Asking.{calls_ask, ea_asks, go_then}
-use Rattle.law_recovery_steps.proofs.Sending.{dts_on_then}
+use Rattle.law_recovery_steps.proofs.Sending.{dts_on_then, first_of, no_dts, none_in, one_alone}
 
 wire_after : (block n : ℕ) → wire block (wire block n + 1) ≡ wire block (n + 1)
 unfolding wire
 wire_after block n = mod-add-mod n (4 * block) 1
-
-later : (x y : ℕ × ℕ) (rest : List (ℕ × ℕ)) → Contains rest y → Contains (x ∷ rest) y
-later x y rest h = Contains-append_right (x ∷ []) rest y h
-
-first_of : (x : ℕ × ℕ) (rest : List (ℕ × ℕ)) → Contains (x ∷ rest) x
-first_of x rest = Contains-append_left (x ∷ []) rest x (Contains-push [] x)
-
-one_alone : (x y : ℕ × ℕ) → Contains (x ∷ []) y → x ≡ y
-one_alone x y h = elim (Contains-push_cases [] x y h) [ inl never ↦ absurd (omega (arith, never.1)) | inr is ↦ is ]
-
-none_there : (e : ℕ × ℕ) → Contains [] e → ⊥
-none_there e c = omega (arith, c.1)
-
-none_on : (block : ℕ) (l : List (ℕ × ℕ)) → [] ≡ dts_on block l → l ≡ []
-none_on block [] e = refl
-none_on block (d ∷ l) e = absurd (cc e)
 
 module _ (life u : ℕ) (old : UrgentRoad) (s : FlowSender) (h : Half) where
   goes_then : (f : FlowRules) (mid new : UrgentRoad) → GoesUrgently (rules_by life f) u old mid → GoesUrgently (rules_by life f) u mid new → GoesUrgently (rules_by life f) u old new
@@ -89,7 +74,7 @@ module _ (life u : ℕ) (old : UrgentRoad) (s : FlowSender) (h : Half) where
           subst (λ (k : ℕ). Urges life u now old (urgent_done (at now s) k).sender h (eds ++ eds_in (urgent_done (at now s) k).tpdus) eas) is
           (asks_on now eds (w ∷ eas) eas rest (urgent_done (at now s) (wire (block_in s) e.0)) r
           (ea_asks life u (at now s) r.base h.receiver.urgent r.aside e.0 e.1 rest r.base_is r.unit waits there.0 (omega (arith, there.1))) (cc f)
-          (λ d c. subst (λ (l : List (ℕ × ℕ)). Contains l d) (sym waits) (later e d rest c)))
+          (λ d c. subst (λ (l : List (ℕ × ℕ)). Contains l d) (sym waits) (later_too e d rest c)))
 
   -- a receiving half that expects the same ED
   pub half_urge : (now : ℕ) (k : Half) (eds eas : List ℕ) → k.receiver.urgent ≡ h.receiver.urgent → k.rules ≡ h.rules → Urges life u now old s h eds eas → Urges life u now old s k eds eas
@@ -117,8 +102,8 @@ module _ (life u : ℕ) (old : UrgentRoad) (s : FlowSender) (h : Half) where
     format = r.format;
     eds_are = r.eds_are;
     eas_are = r.eas_are;
-    eds_now = λ e c. absurd (none_there e (subst (λ (l : List (ℕ × ℕ)). Contains l e) (none_on (block_in s) r.aside.eds r.eds_are) c));
-    eas_now = λ e c. absurd (none_there e (subst (λ (l : List (ℕ × ℕ)). Contains l e) (none_on (block_in s) r.aside.eas r.eas_are) c));
+    eds_now = λ e c. absurd (none_in e (subst (λ (l : List (ℕ × ℕ)). Contains l e) (no_dts (block_in s) r.aside.eds r.eds_are) c));
+    eas_now = λ e c. absurd (none_in e (subst (λ (l : List (ℕ × ℕ)). Contains l e) (no_dts (block_in s) r.aside.eas r.eas_are) c));
     tried = r.tried;
   }
 
@@ -147,7 +132,7 @@ module _ (life u : ℕ) (old : UrgentRoad) (s : FlowSender) (h : Half) where
     there = r.eds_now e (subst (λ (l : List (ℕ × ℕ)). Contains l e) (sym waits) (first_of e rest))
 
     left : (d : ℕ × ℕ) → Contains rest d → Contains r.aside.sends d × (d.1 ≡ now)
-    left d c = r.eds_now d (subst (λ (l : List (ℕ × ℕ)). Contains l d) (sym waits) (later e d rest c))
+    left d c = r.eds_now d (subst (λ (l : List (ℕ × ℕ)). Contains l d) (sym waits) (later_too e d rest c))
 
     moved : (p q : Bool) → (wire (block_in s) e.0 == wire (block_in s) h.receiver.urgent) ≡ p → (wire (block_in s) (e.0 + 1) == wire (block_in s) h.receiver.urgent) ≡ q → GoesUrgently (rules_by life s.rules) u old (road_by p q)
     moved p q f g = goes_then s.rules (urgent_road now r.base s.urgent h.receiver.urgent r.aside) (road_by p q) r.goes (record {

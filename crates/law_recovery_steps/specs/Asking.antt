@@ -3,7 +3,7 @@ use Rattle.std.specs.Prelude.{◌≡◌, ◌⊎◌, ◌<◌, ℕ, List, ◌++◌
 use Rattle.tp4_number.specs.Traffic.{Rules}
 use Rattle.law_tp4_recovery.specs.Urgent.{GoOn, UrgentMove, UrgentRoad}
 use Rattle.tp4_sending.specs.declared.tries.Tries.{Tries}
-use Rattle.tp4_sending.specs.FlowSender.{FlowSender, Sendings, block_in, UrgentSender}
+use Rattle.tp4_sending.specs.SendingHalf.{FlowSender, Sendings, block_in, UrgentSender}
 use Rattle.tp4_sending.specs.Kept.{urgent_base}
 use Rattle.law_recovery_pair.specs.Riding.{rules_by}
 use Rattle.law_tp4_pair.specs.steps.Flowing.{HasUnit}

@@ -2,7 +2,7 @@
 -- that was sent has a piece (X.224, class 4: connection establishment, segmentation).
 use Rattle.std.specs.Prelude.{◌≡◌, ◌≤◌}
 use Rattle.tpdu.specs.declared.service.Options.{Options}
-use Rattle.tp4_sending.specs.FlowSender.{FlowSender}
+use Rattle.tp4_sending.specs.SendingHalf.{FlowSender}
 use Rattle.tp4_sending.specs.Pieces.{end_of}
 use Rattle.tp4_conn.specs.declared.states.InOpened.{InOpened}
 use Rattle.law_tp4_pair.specs.Pair.{Pair}

@@ -4,8 +4,8 @@ use Rattle.std.specs.Prelude.{◌≡◌, ◌⊎◌, ℕ, ◌<◌, List, [], ◌+
 use Rattle.tp4_number.specs.Formats.{most_of}
 use Rattle.tp4_number.specs.Traffic.{Answer}
 use Rattle.law_tp4_recovery.specs.Recovering.{Road}
-use Rattle.tp4_flow.specs.Half.{Half}
-use Rattle.tp4_sending.specs.FlowSender.{FlowSender, Sendings, block_in}
+use Rattle.tp4_flow.specs.ReceivingHalf.{Half}
+use Rattle.tp4_sending.specs.SendingHalf.{FlowSender, Sendings, block_in}
 use Rattle.tp4_sending.specs.Settled.{IsSettled}
 use Rattle.law_recovery_pair.specs.Fitting.{Fits}
 use Rattle.law_recovery_pair.specs.Riding.{Aside, GoesOn, road_of, rules_by}

@@ -4,10 +4,8 @@ use Rattle.std.specs.Prelude.{◌≡◌, ◌<◌, ◌≤◌, ℕ, ◌+◌, List,
 use Rattle.std.specs.List.{sum_by}
 use Rattle.tp4_number.specs.declared.piece.Piece.{Piece}
 use Rattle.tp4_number.specs.Expedited.{LeadsUrgently, Urgent, UrgentEvent, quiet}
-use Rattle.tp4_number.specs.Traffic.{Event, IsFit, Leads, start}
-use Rattle.law_tp4_recovery.specs.Views.{AreViews}
-use Rattle.tp4_flow.specs.Half.{Half}
-use Rattle.tp4_sending.specs.FlowSender.{FlowSender}
+use Rattle.tp4_flow.specs.ReceivingHalf.{Half}
+use Rattle.tp4_sending.specs.SendingHalf.{FlowSender}
 use Rattle.tp4_sending.specs.Kept.{urgent_base}
 use Rattle.tp4_sending.specs.Pieces.{count_in, cut_at}
 use Rattle.tp4_sending.specs.Settled.{IsSettled}
@@ -16,6 +14,7 @@ use Rattle.law_recovery_pair.specs.Riding.{Aside, road_of, rules_by}
 use Rattle.tp4_conn.specs.declared.states.InOpened.{InOpened}
 use Rattle.tp4_conn.specs.declared.states.StateData.TheVariants.{Opened}
 use Rattle.law_recovery_ends.specs.Due.{AreTriedBy, IsTriedBy}
+use Rattle.law_recovery_ends.specs.Resting.{WasReached}
 use Rattle.script_journal.specs.Lawful.{expediteds, normals}
 use Rattle.law_tp4_history.specs.Complete.{AllFull, Complete}
 use Rattle.law_tp4_pair.specs.Pair.{Account, IsIdle, Pair, back_units, forth_units}
@@ -28,16 +27,8 @@ pub record IsKnownAt (life now : ℕ) (s : FlowSender) (h : Half) (units : Accou
   pub no_dts : aside.dts ≡ []
   pub no_aks : aside.aks ≡ []
   pub format : h.rules.format ≡ s.rules.format
-  pub fit : IsFit (rules_by life s.rules)
-  pub tick : ℕ
-  pub credit : ℕ
-  pub places : ℕ
-  pub room : ℕ
-  pub credit_low : credit < (rules_by life s.rules).block
-  pub room_low : room < (rules_by life s.rules).block
-  pub events : List Event
-  pub leads : Leads (rules_by life s.rules) (start tick credit places room) events (road_of now s.numbers h aside).traffic
-  pub views : AreViews (road_of now s.numbers h aside).traffic
+  pub reached : WasReached (rules_by life s.rules) (road_of now s.numbers h aside).traffic
+  pub open reached use *
   pub fits : Fits h
   pub ordered : IsOrdered s
   pub settled : IsSettled s

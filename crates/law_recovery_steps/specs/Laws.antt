@@ -9,9 +9,9 @@ use Rattle.tp4_number.specs.Formats.{most_of}
 use Rattle.tp4_number.specs.Expedited.{LeadsUrgently, Ticks, Urgent, UrgentEvent, quiet, urgently}
 use Rattle.law_tp4_recovery.specs.Recovering.{Road}
 use Rattle.law_tp4_recovery.specs.Urgent.{UrgentRoad}
-use Rattle.tp4_flow.specs.Half.{Half, ak, dt_arrival, half_granted, taken_dt, taken_ed}
+use Rattle.tp4_flow.specs.ReceivingHalf.{Half, ak, dt_arrival, half_granted, taken_dt, taken_ed}
 use Rattle.tp4_flow.specs.declared.step.Sent.{Sent}
-use Rattle.tp4_sending.specs.FlowSender.{FlowSender, acknowledged, block_in, submitted, ticked, urged, urgent_done, at}
+use Rattle.tp4_sending.specs.SendingHalf.{FlowSender, acknowledged, block_in, submitted, ticked, urged, urgent_done, at}
 use Rattle.tp4_sending.specs.Kept.{urgent_base}
 use Rattle.law_recovery_pair.specs.Riding.{Aside, rules_by}
 use Rattle.tp4_conn.specs.declared.call.UserCall.{UserCall}

@@ -4,8 +4,8 @@ use Rattle.std.specs.Prelude.{◌≡◌, ℕ, ◌+◌, ◌-◌, ◌≤◌, true,
 use Rattle.tp4_number.specs.declared.piece.Piece.{Piece}
 use Rattle.tp4_number.specs.Number.{wire}
 use Rattle.tp4_number.specs.Traffic.{Answer}
-use Rattle.tp4_flow.specs.Half.{Half}
-use Rattle.tp4_sending.specs.FlowSender.{FlowSender, Sendings, block_in}
+use Rattle.tp4_flow.specs.ReceivingHalf.{Half}
+use Rattle.tp4_sending.specs.SendingHalf.{FlowSender, Sendings, block_in}
 use Rattle.tp4_sending.specs.Pieces.{cut_at, end_of}
 use Rattle.law_recovery_pair.specs.Riding.{Aside, GoesOn, road_of, rules_by, sent_aside, sent_at}
 use Rattle.law_recovery_ends.specs.Due.{AreTried}

@@ -2,8 +2,8 @@
 -- reassembling, expedited data).
 use Rattle.std.specs.Prelude.{◌≡◌, ℕ, ◌<◌, List, ◌++◌, length, take, None}
 use Rattle.std.specs.List.{sum_by}
-use Rattle.tp4_flow.specs.Half.{Half}
-use Rattle.tp4_sending.specs.FlowSender.{FlowSender}
+use Rattle.tp4_flow.specs.ReceivingHalf.{Half}
+use Rattle.tp4_sending.specs.SendingHalf.{FlowSender}
 use Rattle.tp4_sending.specs.Pieces.{count_in}
 use Rattle.script_journal.specs.Lawful.{expediteds, normals}
 use Rattle.law_tp4_history.specs.Complete.{AllFull, Complete}

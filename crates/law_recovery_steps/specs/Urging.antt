@@ -2,8 +2,8 @@
 -- data).
 use Rattle.std.specs.Prelude.{◌≡◌, ℕ, List, ◌++◌, Contains, None}
 use Rattle.law_tp4_recovery.specs.Urgent.{UrgentRoad}
-use Rattle.tp4_flow.specs.Half.{Half}
-use Rattle.tp4_sending.specs.FlowSender.{FlowSender, Sendings, block_in}
+use Rattle.tp4_flow.specs.ReceivingHalf.{Half}
+use Rattle.tp4_sending.specs.SendingHalf.{FlowSender, Sendings, block_in}
 use Rattle.tp4_sending.specs.Kept.{urgent_base}
 use Rattle.law_recovery_pair.specs.Riding.{rules_by}
 use Rattle.law_tp4_pair.specs.steps.Flowing.{HasUnit}

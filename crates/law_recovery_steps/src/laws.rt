@@ -6,8 +6,8 @@ ghost use Rattle.law_tp4_recovery.specs.Recovering.{Road};
 ghost use Rattle.law_tp4_recovery.specs.Urgent.{UrgentRoad};
 ghost use Rattle.tp4_conn.specs.declared.end_record.EndRecord.{EndRecord};
 ghost use Rattle.tp4_conn.specs.declared.states.InOpened.{InOpened};
-ghost use Rattle.tp4_flow.specs.Half.{Half};
-ghost use Rattle.tp4_sending.specs.FlowSender.{FlowSender};
+ghost use Rattle.tp4_flow.specs.ReceivingHalf.{Half};
+ghost use Rattle.tp4_sending.specs.SendingHalf.{FlowSender};
 ghost use Rattle.law_recovery_steps.specs.Laws.{AksRide, CallsAsk, CallsGoOut, CallsOnward, CallsRide, CallsUrge, ClocksRide, ClocksUrge, DirectionsBegin, DtsRide, EaAsks, EasUrge, EdsAreYoung, EdsRest, EdsRide, EdsUrge, FirstAkGoesOut, GrantsRide, LevelsShow, PairsBegin, PairsLead, PairsRecover, PairsRest, PairsShow, PairsStep, RepeatsRide, TakesOnward, TicksOnward};
 ghost use Rattle.law_recovery_steps.specs.Steps.{Since};
 

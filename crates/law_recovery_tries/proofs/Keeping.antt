@@ -9,10 +9,10 @@ use Rattle.tp4_number.specs.declared.got.Got.{Got}
 use Rattle.tp4_number.specs.declared.got.Got.TheVariants.{TooLarge}
 use Rattle.tp4_number.specs.Number.{whole}
 use Rattle.tp4_number.proofs.Past.{if_kept}
-use Rattle.tp4_flow.specs.Half.{Received, dt_arrival, half_granted, taken_dt, taken_ed}
+use Rattle.tp4_flow.specs.ReceivingHalf.{Received, dt_arrival, half_granted, taken_dt, taken_ed}
 use Rattle.tp4_flow.specs.declared.rules.Life.{Life}
 use Rattle.tp4_flow.specs.declared.rules.Life.TheVariants.{Goes, Exhausted}
-use Rattle.tp4_sending.specs.FlowSender.{Sendings, acknowledged, at, is_urgent_spent, is_window_spent, life_of, submitted, ticked, urged, urgent_done}
+use Rattle.tp4_sending.specs.SendingHalf.{Sendings, acknowledged, at, is_urgent_spent, is_window_spent, life_of, submitted, ticked, urged, urgent_done}
 use Rattle.tp4_sending.specs.Pieces.{again, is_due, is_spent}
 use Rattle.tp4_sending.specs.declared.tries.Tries.{Tries}
 use Rattle.tp4_conn.specs.declared.call.UserCall.{UserCall}

@@ -4,7 +4,7 @@ use Rattle.std.specs.Prelude.{option_map}
 use Rattle.std.specs.List.{AllByRecursion}
 use Rattle.std.proofs.lemmas.Option.{same_Some}
 use Rattle.osi_base.specs.Link.{Link}
-use Rattle.script_journal.specs.Lawful.{ArePartners}
+use Rattle.script_journal.specs.Partner.{ArePartners}
 use Rattle.script_journal.specs.declared.event.Event.{Event}
 use Rattle.tp4_flow.specs.declared.step.Sent.{Sent}
 use Rattle.tp4_conn.specs.End.{End, agreed_format}

@@ -1,38 +1,37 @@
 -- What comes to an entity, and is not for an end from its partner, leaves the number of that end and its units as they are, and is answered in no name of that end.
-use Rattle.std.proofs.Common.{◌≡◌, ◌≢◌, ℕ, ◌+◌, ◌==◌, Bool, true, false, List, [], ◌∷◌, ◌++◌, length, Option, Some, None, refl, sym, ◌∙◌, ap, subst, arith}
-use Rattle.std.specs.Prelude.{if◌then◌else◌, nat_eq, not}
-use Rattle.std.specs.List.{AllByRecursion, list_any}
+use Rattle.std.proofs.Common.{◌≡◌, ◌≢◌, ℕ, ◌+◌, Bool, true, List, [], ◌∷◌, Some, None, refl, sym, ◌∙◌, ap, subst, arith}
+use Rattle.std.specs.Prelude.{nat_eq}
+use Rattle.std.specs.List.{AllByRecursion}
 use Rattle.std.specs.Cmp.Lexicographic.{bytes_decides, pointwise}
-use Rattle.std.proofs.lemmas.Bool.{eqb-true}
 use Rattle.std.proofs.lemmas.Option.{none-some, same_Some}
 use Rattle.osi_base.specs.Link.{Link}
 use Rattle.script_journal.specs.Lawful.{shown}
 use Rattle.script_journal.specs.declared.event.Event.{Event as JournalEvent}
 use Rattle.tpdu.specs.Values.{destination_of, format_for}
-use Rattle.tpdu.specs.Writing.{IsAllowed, kind_for}
+use Rattle.tpdu.specs.Writing.{IsAllowed}
 use Rattle.tpdu.specs.declared.tpdu.Format.{Format}
 use Rattle.tpdu.specs.declared.tpdu.Tpdu.{Tpdu as WireTpdu}
-use Rattle.tpdu.specs.declared.tpdu.Tpdu.TheVariants as wires
 use Rattle.tp4_number.specs.Number.{whole}
 use Rattle.tp4_flow.specs.declared.step.EndEvent.{EndEvent}
 use Rattle.tp4_flow.specs.declared.step.Sent.{Sent}
-use Rattle.tp4_flow.specs.declared.step.What.TheVariants.{Unknown}
 use Rattle.tp4_conn.specs.End.{End, Moved, agreed_format, frozen_for}
+use Rattle.tp4_conn.specs.Making.{indicated}
 use Rattle.tp4_conn.specs.Matching.{fits, is_match}
 use Rattle.tp4_conn.specs.Table.{Took, stepped}
+use Rattle.tp4_conn.specs.declared.end_record.EndRecord.{EndRecord}
 use Rattle.tp4_conn.specs.declared.timers.Timers.{Timers}
-use Rattle.tp4_entity.specs.Association.{answer, is_called, is_registered, met, met_at, met_by, new_end, refusal, requested, unmatched}
+use Rattle.tp4_entity.specs.Association.{met}
 use Rattle.tp4_entity.specs.Entity.{Acted, Entity, at, end_at, moved}
-use Rattle.tp4_entity.specs.References.{is_free_place, least_free}
+use Rattle.tp4_entity.specs.References.{is_free_place}
 use Rattle.tp4_entity.specs.Unit.{extended_of}
 use Rattle.tp4_entity.specs.steps.Places.{format_of}
 use Rattle.tp4_entity.proofs.Formats.{format_is}
-use Rattle.tp4_entity.proofs.Standings.{free_least}
+use Rattle.tp4_entity.proofs.Standings.{Free}
 use Rattle.law_tp4_history.specs.Tracks.{Whole}
 use Rattle.law_tp4_moves.specs.Moves.{HasSource, IsSourced, Sees, times_of}
 use Rattle.law_tp4_moves.specs.Seen.{seen}
 use Rattle.tp4_world.specs.Telling.{ends_after, events_after}
-use Rattle.tp4_world.specs.World.{World, entity_at, is_at, latest, latest_from}
+use Rattle.tp4_world.specs.World.{World, entity_at, latest}
 use Rattle.tp4_world.specs.declared.place.EndAt.{EndAt}
 use Rattle.law_tp4_lawful.proofs.Known.{IsKnown, IsThere}
 use Rattle.law_tp4_lawful.proofs.Worlds.{Explains}
@@ -40,28 +39,13 @@ use Rattle.law_tp4_lawful.proofs.Acts.{stage_of}
 use Rattle.law_tp4_lawful.proofs.ActsRows.{AreTold, row_of}
 use Rattle.law_tp4_lawful.proofs.ActsTold.{ends_stay, others_show_none}
 use Rattle.law_tp4_lawful.proofs.FramesKnown.{number_at}
+pub use Rattle.law_calm_run.proofs.Newest.{latest_elsewhere}
 use Rattle.law_recovery_run.specs.Aside.{AreFacing, Names}
 use Rattle.law_recovery_run.proofs.Aiming.{Going}
-use Rattle.law_recovery_run.proofs.Aside.{both_are, either, going_of, kept_place}
+use Rattle.law_recovery_run.proofs.Aside.{both_are, going_of, kept_place}
+use Rattle.law_recovery_run.proofs.Meeting.{IsAnswer, TellNone, met_cases}
 use Rattle.law_recovery_run.proofs.Rivals.{far, sound}
 use Rattle.law_recovery_walk.proofs.Naming.{row_named, row_sourced}
-
--- ---- the latest end at a reference
-
-latest_last : (next found : ℕ) (ends : List EndAt) (end : EndAt) (system reference : ℕ)
-    → latest_from next found (ends ++ end ∷ []) system reference ≡ (if is_at system reference end then next + length ends else latest_from next found ends system reference)
-latest_last next found [] end system reference = ap (λ (n : ℕ). if is_at system reference end then n else found) (omega arith)
-latest_last next found (one ∷ ends) end system reference =
-    latest_last (next + 1) (if is_at system reference one then next else found) ends end system reference
-    ∙ ap (λ (n : ℕ). if is_at system reference end then n else latest_from (next + 1) (if is_at system reference one then next else found) ends system reference) (omega arith)
-
--- another end that is made at another place
-pub latest_elsewhere : (ends : List EndAt) (end : EndAt) (system reference : ℕ) → (system ≡ end.system → reference ≡ end.reference → ⊥) → latest (ends ++ end ∷ []) system reference ≡ latest ends system reference
-latest_elsewhere ends end system reference apart = latest_last 1 0 ends end system reference ∙ by (is_at system reference end) refl
-  where
-    by : (b : Bool) → is_at system reference end ≡ b → (if b then 1 + length ends else latest ends system reference) ≡ latest ends system reference
-    by true is = let both = both_are (end.system == system) (end.reference == reference) is in absurd (apart (sym (eqb-true end.system system both.0)) (sym (eqb-true end.reference reference both.1)))
-    by false is = refl
 
 module _ {C : Type 0} (link : C → Link (List ℕ)) (titles : List (List ℕ)) (timers : Timers) (w : Whole) (journal : List JournalEvent) (last : World C) (explains : Explains link titles timers w journal last)
     (going : Going) (x y : ℕ) (f : AreFacing last x y) (system : ℕ) (entity : Entity) (there : entity_at last.entities system ≡ Some entity) where
@@ -83,35 +67,6 @@ module _ {C : Type 0} (link : C → Link (List ℕ)) (titles : List (List ℕ)) 
     pub showed : shown x (events_after last.ends system entity.own acted.events) ≡ []
     pub named : system ≡ f.own.system → AllByRecursion (λ (sent : Sent). Names f.own.reference sent.tpdu → ⊥) acted.tpdus
     pub sourced : AllByRecursion (λ (sent : Sent). HasSource (seen 0 sent.tpdu)) acted.tpdus
-
-  -- ---- no end takes it
-
-  pub nothing_told : (events : List EndEvent) → ends_after last.ends system events ≡ last.ends → shown x (events_after last.ends system entity.own events) ≡ [] → IsUntold (record { entity = e; events = events; tpdus = [] })
-  nothing_told events ends_are none =
-      record { number = ap (λ (es : List EndAt). latest es f.own.system f.own.reference) ends_are ∙ f.own.is_end.number; showed = none; named = λ _. tt; sourced = tt }
-
-  answered : (events : List EndEvent) (sent : Sent) → ends_after last.ends system events ≡ last.ends → shown x (events_after last.ends system entity.own events) ≡ []
-      → (Names r sent.tpdu → ⊥) → HasSource (seen 0 sent.tpdu) → IsUntold (record { entity = e; events = events; tpdus = sent ∷ [] })
-  answered events sent ends_are none named has =
-      record { number = ap (λ (es : List EndAt). latest es f.own.system f.own.reference) ends_are ∙ f.own.is_end.number; showed = none; named = λ _. (named, tt); sourced = (has, tt) }
-
-  refused : (events : List EndEvent) (from : List ℕ) (source reason : ℕ) → ends_after last.ends system events ≡ last.ends → shown x (events_after last.ends system entity.own events) ≡ []
-      → IsUntold (record { entity = e; events = events; tpdus = refusal from source reason ∷ [] })
-  refused events from source reason ends_are none = answered events (refusal from source reason) ends_are none (λ names. some (sym names)) (λ kind. absurd (cc kind))
-
-  by_source : (events : List EndEvent) (from : List ℕ) (destination source : ℕ) (b : Bool) → ends_after last.ends system events ≡ last.ends → shown x (events_after last.ends system entity.own events) ≡ []
-      → IsUntold (record { entity = e; events = events; tpdus = if b then [] else answer from (wires.Dc source destination) ∷ [] })
-  by_source events from destination source true ends_are none = nothing_told events ends_are none
-  by_source events from destination source false ends_are none = answered events (answer from (wires.Dc source destination)) ends_are none (λ names. names) (λ kind. absurd (cc kind))
-
-  abbrev unknown : WireTpdu → List EndEvent
-  unknown u = record { reference = 0; what = Unknown (kind_for u) } ∷ []
-
-  aside_of : (from : List ℕ) (u : WireTpdu) → IsUntold (unmatched e from u)
-  aside_of from (wires.Cc credit destination source width calling called size preferred extra version classes ack_time text) =
-      refused (unknown (wires.Cc credit destination source width calling called size preferred extra version classes ack_time text)) from source 132 refl refl
-  aside_of from (wires.Dr destination source reason info text) = by_source (unknown (wires.Dr destination source reason info text)) from destination source (source == 0) refl refl
-  aside_of from other = nothing_told (unknown other) refl refl
 
   -- ---- an end takes it
 
@@ -175,46 +130,27 @@ module _ {C : Type 0} (link : C → Link (List ℕ)) (titles : List (List ℕ)) 
             let reference_is : reference ≡ r = sym known.at.reference_is ∙ ap (λ (n : ℕ). (w.base.end n).birth.reference) (sym k_is) ∙ mine.0.at.reference_is in
             apart_by (explains.known.apart system f.own.system entity f.own.entity there f.own.is_end.there address) reference_is
 
-    by_match : (reference : ℕ) (o : End) (b : Bool) → destination_of t ≡ Some reference → end_at entity reference ≡ Some o → is_match o.base o.stage from t ≡ b
-        → IsUntold (if b then moved e reference (stepped whole now o (Took t sum)) else unmatched e from t)
-    by_match reference o true target stands match = taken reference o target stands match
-    by_match reference o false target stands match = aside_of from t
+    -- ---- and whatever else it does
 
-    by_place : (reference : ℕ) (place : Option End) → destination_of t ≡ Some reference → end_at entity reference ≡ place → IsUntold (met_by whole now e from (t, sum) reference place)
-    by_place reference None target stands = aside_of from t
-    by_place reference (Some o) target stands = by_match reference o (is_match o.base o.stage from t) target stands refl
+    unmade : (events : List EndEvent) → TellNone events → latest (ends_after last.ends system events) f.own.system f.own.reference ≡ x
+    unmade events none = ap (λ (es : List EndAt). latest es f.own.system f.own.reference) (none.ends last.ends system) ∙ f.own.is_end.number
 
-    by_destination : (target : Option ℕ) → destination_of t ≡ target → IsUntold (met_at whole now e from (t, sum) target)
-    by_destination None is = aside_of from t
-    by_destination (Some reference) is = by_place reference (end_at entity reference) is refl
+    nothing : (events : List EndEvent) → TellNone events → IsUntold (record { entity = e; events = events; tpdus = [] })
+    nothing events none = record { number = unmade events none; showed = none.showed last.ends system entity.own x; named = λ _. tt; sourced = tt }
 
-    -- ---- a CR
+    answered : (events : List EndEvent) (sent : Sent) → TellNone events → IsAnswer from t sent → IsUntold (record { entity = e; events = events; tpdus = sent ∷ [] })
+    answered events sent none a = record { number = unmade events none; showed = none.showed last.ends system entity.own x; named = λ _. (a.unnamed r some, tt); sourced = (a.sourced, tt) }
 
-    made : (source : ℕ) (u : WireTpdu) (free : Option ℕ) → least_free now e ≡ free → IsUntold (new_end now e from source u free)
-    made source u None is = refused [] from source 129 refl refl
-    made source (wires.Cr credit from_reference width calling called size preferred extra version classes ack_time text) (Some reference) is =
-        let free = free_least now reference e is in
-        record {
-          number = latest_elsewhere last.ends (record { system = system; reference = reference }) f.own.system f.own.reference (λ here same.
-              let owner : entity ≡ f.own.entity = same_Some entity f.own.entity (sym there ∙ ap (entity_at last.entities) (sym here) ∙ f.own.is_end.there) in
-              kept_place now (frozen_for f.own.end.base.timers) f.own.end.stage f.own.goes
-              (ap (is_free_place now) (sym f.own.is_end.stands ∙ (λ i. end_at (sym owner i) (same i))) ∙ free.free)) ∙ f.own.is_end.number;
-          showed = refl;
-          named = λ _. tt;
-          sourced = tt;
-        }
-    made source u (Some reference) is = nothing_told [] refl refl
-
-    asked : (source : ℕ) (called : List ℕ) (u : WireTpdu) → IsUntold (requested now e from source called u)
-    asked source called u =
-        either IsUntold (list_any (is_called false from source) e.ends) _ _ (nothing_told [] refl refl)
-        (either IsUntold (list_any (is_called true from source) e.ends) _ _ (refused [] from source 131 refl refl)
-        (either IsUntold (not (is_registered e.selectors called)) _ _ (refused [] from source 3 refl refl) (made source u (least_free now e) refl)))
-
-    by_kind : (u : WireTpdu) → u ≡ t → IsUntold (met whole now e from (u, sum))
-    by_kind (wires.Cr credit source width calling called size preferred extra version classes ack_time text) is =
-        asked source called (wires.Cr credit source width calling called size preferred extra version classes ack_time text)
-    by_kind u is = subst (λ (u : WireTpdu). IsUntold (met_at whole now e from (u, sum) (destination_of u))) (sym is) (by_destination (destination_of t) refl)
+    made : (reference : ℕ) (base : EndRecord) (octets : List ℕ) → Free now reference e → base.own ≡ reference → IsUntold (moved e reference (indicated base octets))
+    made reference base octets free own = record {
+      number = latest_elsewhere last.ends (record { system = system; reference = base.own }) f.own.system f.own.reference (λ here same.
+          let owner : entity ≡ f.own.entity = same_Some entity f.own.entity (sym there ∙ ap (entity_at last.entities) (sym here) ∙ f.own.is_end.there) in
+          kept_place now (frozen_for f.own.end.base.timers) f.own.end.stage f.own.goes
+          (ap (is_free_place now) (sym f.own.is_end.stands ∙ (λ i. end_at (sym owner i) ((same ∙ own) i))) ∙ free.free)) ∙ f.own.is_end.number;
+      showed = refl;
+      named = λ _. tt;
+      sourced = tt;
+    }
 
     pub untold : IsUntold (met whole now e from (t, sum))
-    untold = by_kind t refl
+    untold = met_cases now e from t sum IsUntold nothing answered taken made

@@ -23,7 +23,7 @@ use Rattle.tp4_conn.specs.declared.end_record.EndRecord.{EndRecord}
 use Rattle.tp4_conn.specs.declared.timers.Timers.{Timers}
 use Rattle.tp4_entity.specs.Association.{met}
 use Rattle.tp4_entity.specs.Entity.{Acted, Entity, at, end_at, moved}
-use Rattle.tp4_entity.specs.References.{is_silent}
+use Rattle.tp4_entity.specs.Silence.{is_silent}
 use Rattle.tp4_entity.specs.Unit.{TakesUnit, extended_of}
 use Rattle.tp4_entity.specs.steps.Places.{format_of}
 use Rattle.tp4_entity.proofs.Formats.{format_is}
@@ -74,10 +74,10 @@ no_cc (wires.Ea destination number) has = λ kind. absurd (cc kind)
 no_cc other has = absurd (cc has)
 
 -- as it is read, it names whom it named
-read_names : (entity : Entity) (sent : Sent) (t : WireTpdu) (sum : Bool) (r : ℕ) → IsReadAs entity sent (t, sum) → Names r t → Names r sent.tpdu
+pub read_names : (entity : Entity) (sent : Sent) (t : WireTpdu) (sum : Bool) (r : ℕ) → IsReadAs entity sent (t, sum) → Names r t → Names r sent.tpdu
 read_names entity sent t sum r read names = subst (Names r) (read.control (ap has_number (sym read.kind) ∙ no_number t r names)) names
 
-read_sourced : (entity : Entity) (sent : Sent) (t : WireTpdu) (sum : Bool) → IsReadAs entity sent (t, sum) → HasSource (seen 0 sent.tpdu) → HasSource (seen 0 t)
+pub read_sourced : (entity : Entity) (sent : Sent) (t : WireTpdu) (sum : Bool) → IsReadAs entity sent (t, sum) → HasSource (seen 0 sent.tpdu) → HasSource (seen 0 t)
 read_sourced entity sent t sum read has = by (has_number (kind_for sent.tpdu)) refl
   where
     by : (b : Bool) → has_number (kind_for sent.tpdu) ≡ b → HasSource (seen 0 t)

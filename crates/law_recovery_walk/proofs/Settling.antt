@@ -62,22 +62,23 @@ gave_still n journal made units none is = is ∙ sym (append-nil (submitted n jo
 showed_still : (n : ℕ) (journal made : List Event) (units : List Marked) → TellsNoUnits made → units ≡ shown n journal → units ≡ shown n (journal ++ made)
 showed_still n journal made units none is = is ∙ sym (append-nil (shown n journal)) ∙ ap (λ (us : List Marked). shown n journal ++ us) (sym (none.showed n)) ∙ sym (shown-append n journal made)
 
+-- an end stands as it stood
+abbrev pub stands_still : {C : Type 0} (old new : World C) → new.entities ≡ old.entities → new.ends ≡ old.ends → (x : ℕ) (e : End) → Stands old x e → Stands new x e
+stands_still old new entities ends x e s = record {
+  system = s.system;
+  reference = s.reference;
+  entity = s.entity;
+  is_end = record {
+    there = ap (λ (ps : List Placed). entity_at ps s.system) entities ∙ s.is_end.there;
+    stands = s.is_end.stands;
+    number = ap (λ (es : List EndAt). latest es s.system s.reference) ends ∙ s.is_end.number;
+  };
+}
+
 module _ {C : Type 0} (link : C → Link (List ℕ)) (journal made : List Event) (old new : World C) (entities : new.entities ≡ old.entities) (ends : new.ends ≡ old.ends)
     (clock : (link new.carrier).clock ≡ (link old.carrier).clock) (none : TellsNoUnits made) where
-  abbrev stands_still : (x : ℕ) (e : End) → Stands old x e → Stands new x e
-  stands_still x e s = record {
-    system = s.system;
-    reference = s.reference;
-    entity = s.entity;
-    is_end = record {
-      there = ap (λ (ps : List Placed). entity_at ps s.system) entities ∙ s.is_end.there;
-      stands = s.is_end.stands;
-      number = ap (λ (es : List EndAt). latest es s.system s.reference) ends ∙ s.is_end.number;
-    };
-  }
-
   side_still : (posts : List Post) (x y : ℕ) (mine theirs : End) (here : Stands old x mine) (there : Stands old y theirs) (waits : List Sent) (gave showed : List Marked)
-      → IsSide journal old posts x y mine theirs here there waits gave showed → IsSide (journal ++ made) new posts x y mine theirs (stands_still x mine here) (stands_still y theirs there) waits gave showed
+      → IsSide journal old posts x y mine theirs here there waits gave showed → IsSide (journal ++ made) new posts x y mine theirs (stands_still old new entities ends x mine here) (stands_still old new entities ends y theirs there) waits gave showed
   side_still posts x y mine theirs here there waits gave showed s = record {
     to_is = s.to_is;
     partner_is = s.partner_is;
@@ -90,8 +91,8 @@ module _ {C : Type 0} (link : C → Link (List ℕ)) (journal made : List Event)
 
   pub followed_still : (posts : List Post) (x y : ℕ) (p : Pair) → IsFollowed link journal old posts x y p → IsFollowed link (journal ++ made) new posts x y p
   followed_still posts x y p f = record {
-    calling = stands_still x p.calling f.calling;
-    called = stands_still y p.called f.called;
+    calling = stands_still old new entities ends x p.calling f.calling;
+    called = stands_still old new entities ends y p.called f.called;
     forth = side_still posts x y p.calling p.called f.calling f.called p.forth p.calling_gave p.calling_showed f.forth;
     back = side_still posts y x p.called p.calling f.called f.calling p.back p.called_gave p.called_showed f.back;
     apart = f.apart;
@@ -124,7 +125,8 @@ module _ {C : Type 0} (link : C → Link (List ℕ)) (steps : C → Call (List �
       let known = known_at link ex.titles ex.timers ex.w journal world ex.explains x s.system s.entity s.reference e s.is_end in
       subst IsTimed ((ex.explains.known.holds s.system s.entity s.is_end.there).theirs s.reference e s.is_end.stands) known.0.sees.timers
 
-  explained_on : (old new : World C) (journal made : List Event) (hall : Hall) (queue : List (CarriedUnit (List ℕ))) (pair : ℕ × ℕ) → StandsSo link steps law titles Waits fifo old hall queue
+  -- one delivery leaves it explained
+  pub explained_on : (old new : World C) (journal made : List Event) (hall : Hall) (queue : List (CarriedUnit (List ℕ))) (pair : ℕ × ℕ) → StandsSo link steps law titles Waits fifo old hall queue
       → (ex : IsExplained link journal old) → IsTimed ex.timers → Delivers link steps whole old pair.0 pair.1 WasPicked made new → IsExplained link (journal ++ made) new
   explained_on old new journal made hall queue pair s ex is_timed d =
       let f : Followed ex.titles ex.timers = followed ex.titles ex.timers in

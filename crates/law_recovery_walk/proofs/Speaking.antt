@@ -17,9 +17,9 @@ use Rattle.tp4_flow.specs.declared.rules.Life.{Life}
 use Rattle.tp4_flow.specs.declared.rules.Life.TheVariants.{Goes, Exhausted as Spent}
 use Rattle.tp4_flow.specs.declared.step.EndEvent.{EndEvent}
 use Rattle.tp4_flow.specs.declared.step.Sent.{Sent}
-use Rattle.tp4_flow.specs.Half.{Half, Received, ak, aks, ea, dt_arrival, half_after, half_granted, is_before, is_next, taken_dt, taken_ed}
+use Rattle.tp4_flow.specs.ReceivingHalf.{Half, Received, ak, aks, ea, dt_arrival, half_after, half_granted, is_before, is_next, taken_dt, taken_ed}
 use Rattle.tp4_sending.specs.declared.tries.Tries.{Tries}
-use Rattle.tp4_sending.specs.FlowSender.{FlowSender, Sendings, acknowledged, acknowledged_to, all_dts, at, block_in, dt_sent, dts, dts_of, ed_sent, due_numbers, eds, has_next, is_noted, is_outstanding, is_taken, is_urgent, life_of, new_sends, normals, normals_where, nothing, one_urgent, resends, resends_urgent, resends_urgent_as, rule_allows, sent_normal, submitted, then_sends, ticked, ticked_as, urged, urgent_done}
+use Rattle.tp4_sending.specs.SendingHalf.{FlowSender, Sendings, acknowledged, acknowledged_to, all_dts, at, block_in, dt_sent, dts, dts_of, ed_sent, due_numbers, eds, has_next, is_noted, is_outstanding, is_taken, is_urgent, life_of, new_sends, normals, normals_where, nothing, one_urgent, resends, resends_urgent, resends_urgent_as, rule_allows, sent_normal, submitted, then_sends, ticked, ticked_as, urged, urgent_done}
 use Rattle.tp4_sending.specs.Pieces.{cut_at, is_due}
 use Rattle.tp4_conn.specs.Agreeing.{flow_rules}
 use Rattle.tp4_conn.specs.Closing.{closing_tick, closing_tpdu}

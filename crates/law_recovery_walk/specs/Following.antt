@@ -22,7 +22,7 @@ use Rattle.tp4_conn.specs.declared.states.StateData.{StateData}
 use Rattle.tp4_conn.specs.declared.states.StateData.TheVariants.{Closing, Opened}
 use Rattle.tp4_entity.specs.Association.{met}
 use Rattle.tp4_entity.specs.Entity.{Acted, Entity, at}
-use Rattle.tp4_entity.specs.References.{is_silent}
+use Rattle.tp4_entity.specs.Silence.{is_silent}
 use Rattle.tp4_entity.specs.Unit.{ignored}
 use Rattle.law_tp4_moves.specs.Moves.{AreOwn, HasSource}
 use Rattle.law_tp4_moves.specs.Seen.{seen}

@@ -17,7 +17,8 @@ use Rattle.law_calm_service.proofs.WiredEnds.{placed_on, upper_end, upper_open}
 use Rattle.law_recovery_going.specs.Causes.{IsCause}
 use Rattle.law_recovery_service.specs.Recovered.{AreBack, By_itself, By_user, Goes, HaveGone, IsOver, Recovered}
 
-abbrev opened_on_wire : InOpened → InOpened
+-- the state of an end that is Opened, over the numbers of the wire
+abbrev pub opened_on_wire : InOpened → InOpened
 opened_on_wire o = record o { halves = halves_on_wire o.halves }
 
 -- ---- one end
@@ -55,7 +56,8 @@ gone_on_wire t t0 early late last calling called o q h = record {
   called_over = over_on_wire last called h.called_over;
 }
 
-back_on_wire : {C : Type 0} (t : Timers) (t0 now : ℕ) (journal : List Event) (last : World C) (calling called : ℕ) → AreBack t t0 now journal last calling called
+-- ends that are back
+pub back_on_wire : {C : Type 0} (t : Timers) (t0 now : ℕ) (journal : List Event) (last : World C) (calling called : ℕ) → AreBack t t0 now journal last calling called
     → AreBack t t0 now journal (world_on_wire last) calling called
 back_on_wire t t0 now journal last calling called b = record {
   x = end_on_wire b.x;

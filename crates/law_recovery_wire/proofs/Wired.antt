@@ -22,12 +22,12 @@ use Rattle.law_recovery_wire.proofs.Recovered.{recovered_on_wire}
 
 module _ {C : Type 0} (link : C → Link (List ℕ)) (steps : C → Call (List ℕ) → C → Type 0) (whole_run : WholeRun link steps) (whole_line : WholeLine link steps) where
   -- lines from a network with whole numbers on
-  record GoesAbove (titles : List (List ℕ)) (old : World C) (script : List Line) (journal : List Event) (last : World C) : Type 0 where
-    up : World C
-    runs : RunsLines link steps whole titles old script journal up
-    is : last ≡ world_on_wire up
+  pub record GoesAbove (titles : List (List ℕ)) (old : World C) (script : List Line) (journal : List Event) (last : World C) : Type 0 where
+    pub up : World C
+    pub runs : RunsLines link steps whole titles old script journal up
+    pub is : last ≡ world_on_wire up
 
-  lines_above : (titles : List (List ℕ)) (script : List Line) (old : World C) (journal : List Event) (last : World C) → RunsLines link steps wire titles (world_on_wire old) script journal last
+  pub lines_above : (titles : List (List ℕ)) (script : List Line) (old : World C) (journal : List Event) (last : World C) → RunsLines link steps wire titles (world_on_wire old) script journal last
       → GoesAbove titles old script journal last
   lines_above titles [] old journal last run = record { up = old; runs = (run.0, refl); is = run.1 }
   lines_above titles (line ∷ script) old journal last run =

@@ -10,7 +10,7 @@ use Rattle.tpdu.specs.declared.tpdu.Tpdu.TheVariants.{Cr, Cc}
 use Rattle.tp4_number.proofs.Past.{if_kept}
 use Rattle.tp4_flow.specs.declared.rules.SubmitRefusal.{SubmitRefusal}
 use Rattle.tp4_flow.specs.declared.step.Sent.{Sent}
-use Rattle.tp4_sending.specs.FlowSender.{FlowSender, refusal}
+use Rattle.tp4_sending.specs.SendingHalf.{FlowSender, refusal}
 use Rattle.tp4_conn.specs.Calls.{call_refusal, is_listed, normal_refusal, sending_of, state_of, unit_refusal}
 use Rattle.tp4_conn.specs.declared.call.CallRefusal.{CallRefusal}
 use Rattle.tp4_conn.specs.declared.call.CallRefusal.TheVariants.{WrongState}

@@ -1,11 +1,9 @@
 -- A TPDU that was offered, and comes to an end that stands at its destination: where it is an AK that is heard, the partner offered what the sending half then knows.
-use Rattle.std.specs.Prelude.{option_map}
-use Rattle.std.proofs.Common.{◌≡◌, inl, inr, ℕ, ◌+◌, ◌≤◌, Bool, true, List, Some, sym, ap, subst, ◌∙◌}
-use Rattle.std.proofs.lemmas.Option.{same_Some}
+use Rattle.std.proofs.Common.{◌≡◌, ℕ, ◌+◌, ◌≤◌, Bool, true, List, Some, sym, subst}
 use Rattle.tpdu.specs.declared.tpdu.Tpdu.{Tpdu as WireTpdu}
 use Rattle.tpdu.specs.Values.{destination_of}
 use Rattle.tp4_flow.specs.declared.step.Sent.{Sent}
-use Rattle.tp4_sending.specs.FlowSender.{FlowSender}
+use Rattle.tp4_sending.specs.SendingHalf.{FlowSender}
 use Rattle.tp4_conn.specs.declared.halves.Halves.{Halves}
 use Rattle.tp4_conn.specs.declared.timers.Timers.{Timers}
 use Rattle.tp4_conn.specs.End.{End}
@@ -13,22 +11,19 @@ use Rattle.tp4_conn.specs.Matching.{is_match}
 use Rattle.tp4_conn.specs.Table.{Took}
 use Rattle.law_recovery_ends.specs.Knowing.{HasHeard}
 use Rattle.tp4_entity.specs.Entity.{Entity, end_at}
-use Rattle.script_journal.specs.Lawful.{ArePartners}
+use Rattle.script_journal.specs.Partner.{ArePartners}
 use Rattle.script_journal.specs.declared.event.Event.{Event}
-use Rattle.law_tp4_history.specs.Ends.{Terms}
-use Rattle.law_tp4_history.specs.History.{IsPartner}
 use Rattle.law_tp4_history.specs.Tracks.{Whole}
 use Rattle.law_tp4_history.proofs.Written.{Kept}
 use Rattle.law_tp4_moves.specs.Moves.{times_of}
-use Rattle.law_tp4_moves.specs.Seen.{terms_of}
 use Rattle.tp4_world.specs.World.{entity_at, latest}
 use Rattle.tp4_world.specs.declared.place.EndAt.{EndAt}
 use Rattle.tp4_world.specs.declared.place.Placed.{Placed}
 use Rattle.law_tp4_lawful.specs.References.{halves_at}
-use Rattle.law_tp4_lawful.proofs.Known.{AreTerms, IsKnown, IsOffered, IsReadAs, IsThere, Known}
+use Rattle.law_tp4_lawful.proofs.Known.{IsKnown, IsOffered, IsReadAs, IsThere, Known}
 use Rattle.law_tp4_lawful.proofs.FramesKnown.{keeps, number_at}
 use Rattle.law_tp4_lawful.proofs.MeetsOthers.{is as read_is, number, taken}
-use Rattle.law_tp4_lawful.proofs.ReferencesHalves.{AreThere, own_in, stand_in}
+use Rattle.law_tp4_lawful.proofs.ReferencesHalves.{AreThere, there_in}
 use Rattle.law_tp4_lawful.proofs.ReferencesMet.{IsMet}
 use Rattle.law_recovery_world.specs.Lines.{IsOfferedView}
 use Rattle.law_recovery_world.proofs.Hearing.{heard_view}
@@ -41,28 +36,8 @@ module _ (titles : List (List ℕ)) (timers : Timers) (w : Whole) (journal : Lis
   abbrev own : IsKnown w entity.own reference e
   own = subst (IsThere w entity.own reference) stands ((known.holds system entity at).there reference)
 
-  agreed_terms : (k z : ℕ) (terms : Terms) → IsPartner w.base k z → (w.base.end k).agreed ≡ Some terms → AreTerms w.base k z terms
-  agreed_terms k z terms (inl p) is = record {
-    own = λ called. absurd (cc (called, (kept.sound.pairs k z p).calls));
-    theirs = λ called agreed other. same_Some _ _ (sym other ∙ kept.agreed.both k z terms p is);
-  }
-  agreed_terms k z terms (inr p) is = record {
-    own = λ called agreed other. same_Some _ _ (sym other ∙ is);
-    theirs = λ called. absurd (cc (called, (kept.sound.pairs z k p).calls));
-  }
-
   there : (h : Halves) → halves_at e.stage ≡ Some h → AreThere w own.k e.base h
-  there h is =
-      let o = own_in (w.base.end own.k).birth (w.base.end own.k).took (w.base.end own.k).latest e.base e.stage h is own.sees.state in
-      let p = (kept.sound.own own.k own.at.low).known (λ none. o.1 (sym own.sees.known ∙ none)) in
-      let agreed : (w.base.end own.k).agreed ≡ Some (terms_of o.0.terms) = own.sees.agreed ∙ ap (option_map terms_of) o.0.agreed in
-      record {
-        z = p.0;
-        partner = p.1;
-        own = o.0;
-        halves = stand_in (terms_of o.0.terms) e.base e.stage h (w.track own.k) (w.track p.0) is
-            (own.stands p.0 (terms_of o.0.terms) p.1 (agreed_terms own.k p.0 (terms_of o.0.terms) p.1 agreed));
-      }
+  there h is = there_in (times_of timers) titles w journal kept entity.own reference e own h is
 
   module _ (tick : ℕ) (from : List ℕ) (sent : Sent) (io : IsOffered w.base tick from sent) (to : sent.to ≡ entity.own) (soon : w.base.clock ≤ tick + timers.life)
       (t : WireTpdu) (sum : Bool) (reading : IsReadAs entity sent (t, sum)) (destination : destination_of t ≡ Some reference) (match : is_match e.base e.stage from t ≡ true) where

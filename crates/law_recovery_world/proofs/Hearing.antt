@@ -8,14 +8,14 @@ use Rattle.tp4_number.specs.Formats.{block_of}
 use Rattle.tp4_number.specs.Number.{near, wire}
 use Rattle.tp4_number.specs.Sender.{Sender}
 use Rattle.tp4_number.specs.Traffic.{Answer, ReadsRightly, Traffic}
-use Rattle.tp4_sending.specs.FlowSender.{FlowSender, block_in}
+use Rattle.tp4_sending.specs.SendingHalf.{FlowSender, block_in}
 use Rattle.tp4_conn.specs.End.{End, agreed_format}
 use Rattle.tp4_conn.specs.Table.{Took}
 use Rattle.tp4_conn.specs.declared.halves.Halves.{Halves}
 use Rattle.tp4_conn.specs.declared.timers.Timers.{Timers}
 use Rattle.law_recovery_ends.specs.Knowing.{HasHeard}
 use Rattle.law_recovery_ends.specs.Lines.{WasSaid}
-use Rattle.script_journal.specs.Lawful.{ArePartners}
+use Rattle.script_journal.specs.Partner.{ArePartners}
 use Rattle.script_journal.specs.declared.event.Event.{Event}
 use Rattle.law_tp4_history.specs.Ends.{Ak, Body, Flow, Tpdu}
 use Rattle.law_tp4_history.specs.Tracks.{IsNumbered, Noted, Whole}

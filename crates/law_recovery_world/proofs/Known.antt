@@ -9,7 +9,7 @@ use Rattle.tp4_conn.specs.declared.timers.Timers.{Timers}
 use Rattle.law_tp4_credit.specs.Giving.{GivesCredit}
 use Rattle.law_recovery_ends.specs.Knowing.{IsFreshView}
 use Rattle.tp4_entity.specs.Entity.{Entity, end_at}
-use Rattle.script_journal.specs.Lawful.{ArePartners}
+use Rattle.script_journal.specs.Partner.{ArePartners}
 use Rattle.script_journal.specs.declared.event.Event.{Event}
 use Rattle.law_tp4_history.specs.History.{History}
 use Rattle.law_tp4_history.specs.Tracks.{Whole}

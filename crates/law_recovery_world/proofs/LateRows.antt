@@ -11,11 +11,11 @@ use Rattle.tp4_number.proofs.Past.{if_kept}
 use Rattle.law_tp4_recovery.specs.Views.{Wider}
 use Rattle.law_tp4_recovery.proofs.Older.{older_then}
 use Rattle.law_tp4_recovery.proofs.Rising.{dt_rises, gives}
-use Rattle.tp4_flow.specs.Half.{Half, allowed, block_in, dt_arrival, half_granted, is_next, taken_dt, taken_ed}
+use Rattle.tp4_flow.specs.ReceivingHalf.{Half, allowed, block_in, dt_arrival, half_granted, is_next, taken_dt, taken_ed}
 use Rattle.tp4_flow.specs.declared.rules.Life.{Life}
 use Rattle.tp4_flow.specs.declared.rules.Life.TheVariants.{Goes, Exhausted}
 use Rattle.tpdu.specs.declared.service.Options.{Options}
-use Rattle.tp4_sending.specs.FlowSender.{FlowSender, Sendings, at, life_of, opened, ticked}
+use Rattle.tp4_sending.specs.SendingHalf.{FlowSender, Sendings, at, life_of, opened, ticked}
 use Rattle.tp4_sending.specs.declared.tries.Tries.{Tries}
 use Rattle.law_recovery_pair.specs.Fitting.{Fits}
 use Rattle.law_recovery_pair.proofs.Fitting.{dt_fits, empty_fits, grant_fits}

@@ -7,7 +7,7 @@ use Rattle.tp4_number.specs.Sender.{Sender, is_newer}
 use Rattle.tp4_number.proofs.Past.{if_kept}
 use Rattle.law_tp4_recovery.specs.Views.{Further, IsNoOlder, Later, View, Wider}
 use Rattle.law_tp4_recovery.proofs.Older.{older_then, same_view}
-use Rattle.tp4_sending.specs.FlowSender.{FlowSender, Sendings, acknowledged, acknowledged_to, at, block_in, is_taken, new_sends, opened}
+use Rattle.tp4_sending.specs.SendingHalf.{FlowSender, Sendings, acknowledged, acknowledged_to, at, block_in, is_taken, new_sends, opened}
 use Rattle.law_recovery_pair.specs.Viewing.{KeepsView}
 use Rattle.law_recovery_pair.proofs.Viewing.{new_keep, open_keep, told_is}
 use Rattle.tp4_conn.specs.declared.end_record.EndRecord.{EndRecord}

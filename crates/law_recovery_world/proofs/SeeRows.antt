@@ -1,13 +1,13 @@
 -- Each row keeps what an end sees of the offers of its partner; and a longer journal, with more offers, does.
 use Rattle.std.proofs.Common.{◌≡◌, ◌⊎◌, inl, inr, ℕ, ◌+◌, List, ◌++◌, Some, refl, sym, ◌∙◌, Contains}
-use Rattle.tp4_sending.specs.FlowSender.{FlowSender}
+use Rattle.tp4_sending.specs.SendingHalf.{FlowSender}
 use Rattle.law_recovery_pair.specs.Viewing.{KeepsView}
 use Rattle.tp4_conn.specs.Table.{Event}
 use Rattle.tp4_conn.specs.declared.halves.Halves.{Halves}
 use Rattle.tp4_conn.specs.declared.states.StateData.{StateData}
 use Rattle.tp4_conn.specs.declared.states.StateData.TheVariants.{CrWait, AkWait, Opened}
 use Rattle.law_recovery_ends.specs.Knowing.{HasHeard, IsFreshView, RowKnows, ViewIn}
-use Rattle.script_journal.specs.Lawful.{ArePartners}
+use Rattle.script_journal.specs.Partner.{ArePartners}
 use Rattle.script_journal.specs.declared.event.Event.{Event as Told}
 use Rattle.law_tp4_history.specs.Ends.{Ak, Offer}
 use Rattle.law_tp4_history.specs.Tracks.{Whole}

@@ -45,7 +45,7 @@ not_both a s b r apart = elim (cases_eq a s) [
   | inr other ↦ ap (λ (x : Bool). x && (b == r)) (ne_eqb a s other)
 ]
 
-latest_other : (ends : List EndAt) (system made other reference : ℕ) → (system ≡ other → made ≡ reference → ⊥)
+pub latest_other : (ends : List EndAt) (system made other reference : ℕ) → (system ≡ other → made ≡ reference → ⊥)
     → latest (ends ++ record { system = system; reference = made } ∷ []) other reference ≡ latest ends other reference
 latest_other ends system made other reference apart =
     latest_from_other 1 0 ends (record { system = system; reference = made }) other reference (not_both system other made reference apart)

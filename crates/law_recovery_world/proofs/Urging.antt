@@ -9,12 +9,12 @@ use Rattle.tp4_number.specs.declared.got.Got.{Got}
 use Rattle.tp4_number.specs.declared.got.Got.TheVariants.{TooLarge}
 use Rattle.tp4_number.specs.declared.piece.Piece.{Piece}
 use Rattle.tp4_number.proofs.Past.{if_kept}
-use Rattle.tp4_flow.specs.Half.{dt_arrival, half_granted, taken_dt}
+use Rattle.tp4_flow.specs.ReceivingHalf.{dt_arrival, half_granted, taken_dt}
 use Rattle.tp4_flow.specs.declared.rules.Life.{Life}
 use Rattle.tp4_flow.specs.declared.rules.Life.TheVariants.{Goes, Exhausted}
 use Rattle.tp4_flow.specs.declared.rules.SubmitRefusal.{SubmitRefusal}
 use Rattle.tp4_flow.specs.declared.rules.SubmitRefusal.TheVariants as submits
-use Rattle.tp4_sending.specs.FlowSender.{FlowSender, Sendings, UrgentSender, acknowledged, acknowledged_to, at, block_in, has_next, is_noted, is_outstanding, is_taken, is_urgent, life_of, new_sends, normals, normals_where, one_urgent, opened, resends, resends_urgent_as, rule_allows, sent_normal, submitted, ticked, ticked_as, urgent_done, urgent_refusal}
+use Rattle.tp4_sending.specs.SendingHalf.{FlowSender, Sendings, UrgentSender, acknowledged, acknowledged_to, at, block_in, has_next, is_noted, is_outstanding, is_taken, is_urgent, life_of, new_sends, normals, normals_where, one_urgent, opened, resends, resends_urgent_as, rule_allows, sent_normal, submitted, ticked, ticked_as, urgent_done, urgent_refusal}
 use Rattle.tp4_sending.specs.Pieces.{end_of}
 use Rattle.tp4_sending.specs.declared.tries.Tries.{Tries}
 use Rattle.tp4_conn.specs.declared.call.UserCall.{UserCall}

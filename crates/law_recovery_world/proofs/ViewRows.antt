@@ -1,6 +1,6 @@
 -- Each row keeps what is known of the offers of the partner.
 use Rattle.std.proofs.Common.{◌≡◌, inl, inr, ℕ, Some, refl, sym, ◌∙◌}
-use Rattle.tp4_sending.specs.FlowSender.{FlowSender}
+use Rattle.tp4_sending.specs.SendingHalf.{FlowSender}
 use Rattle.law_recovery_pair.specs.Viewing.{KeepsView}
 use Rattle.tp4_conn.specs.Table.{Event, stepped}
 use Rattle.tp4_conn.specs.declared.halves.Halves.{Halves}

@@ -8,7 +8,7 @@ use Rattle.law_tp4_recovery.specs.Views.{View, known, view_of}
 use Rattle.tp4_conn.specs.declared.halves.Halves.{Halves}
 use Rattle.tp4_conn.specs.declared.timers.Timers.{Timers}
 use Rattle.law_recovery_ends.proofs.Lines.{beginners_know}
-use Rattle.script_journal.specs.Lawful.{ArePartners}
+use Rattle.script_journal.specs.Partner.{ArePartners}
 use Rattle.script_journal.specs.declared.event.Event.{Event}
 use Rattle.law_tp4_history.specs.Ends.{Ak, Body}
 use Rattle.law_tp4_history.specs.History.{IsPartner}

@@ -16,7 +16,7 @@ use Rattle.law_tp4_credit.specs.Giving.{GivesCredit}
 use Rattle.tp4_entity.specs.Entity.{Entity}
 use Rattle.tp4_entity.specs.Unit.{EndsWith, Separates}
 use Rattle.law_tp4_proper.specs.Rest.{AreInTime, AreProper}
-use Rattle.script_journal.specs.Lawful.{ArePartners}
+use Rattle.script_journal.specs.Partner.{ArePartners}
 use Rattle.script_journal.specs.declared.event.Event.{Event}
 use Rattle.script_journal.specs.declared.event.Event.TheVariants as events
 use Rattle.net_world.specs.Told.{told}
@@ -94,32 +94,36 @@ module _ {C : Type 0} (link : C → Link (List ℕ)) (steps : C → Call (List �
     here : Followed titles timers
     here = followed titles timers a.timed plain
 
-    begun : worlds.Rests link AreProper titles timers r.begun r.first
+    pub begun : worlds.Rests link AreProper titles timers r.begun r.first
     begun = started titles timers a.timed a.timed.inactive_least a.distinct r.placed r.is_first.entities r.untouched begins link steps law plain AreProper AreInTime outcomes r.made r.begun
         r.first r.is_first r.starts
 
     entities_are : r.first.entities ≡ r.placed
     entities_are = ap (λ (x : World C). x.entities) r.starts.becomes
 
-    carrier_is : r.first.carrier ≡ r.starts.below
+    pub carrier_is : r.first.carrier ≡ r.starts.below
     carrier_is = ap (λ (x : World C). x.carrier) r.starts.becomes
 
-    at_zero : begun.w.base.clock ≡ 0
+    pub at_zero : begun.w.base.clock ≡ 0
     at_zero = sym begun.explains.carries.clock ∙ ap (λ (c : C). (link c).clock) carrier_is ∙ r.starts.gathers.stands.clock ∙ r.is_first.carrier_is.clock
+
+    no_end : AllByRecursion (λ (one : Placed). HasNoEnd one.entity) r.first.entities
+    no_end = subst (λ (es : List Placed). AllByRecursion (λ (one : Placed). HasNoEnd one.entity) es) (sym entities_are) (no_ends titles r.placed r.is_first.entities)
+
+    pub first_known : Known titles timers begun.w r.begun r.first.entities r.first.ends
+    first_known = record {
+      plain = begun.explains.known;
+      steady = none_steady timers.credit begun.w.base.clock r.first.entities no_end;
+      seeing = none_seeing timers.credit begun.w r.begun r.first.entities r.first.ends no_end;
+      short = subst AreShort (sym r.starts.made_is)
+          (aside_short [] (events.Tick 0 ∷ told r.starts.ups) (λ end. tt) (are_aside (events.Tick 0 ∷ told r.starts.ups) (record { submits = λ end. refl; shows = λ end. refl; makes = refl }, told_quiet r.starts.ups)));
+    }
 
     first_rests : Rests link AreProper titles timers r.begun r.first
     first_rests = record {
       w = begun.w;
       explains = record {
-        known = record {
-          plain = begun.explains.known;
-          steady = none_steady timers.credit begun.w.base.clock r.first.entities
-              (subst (λ (es : List Placed). AllByRecursion (λ (one : Placed). HasNoEnd one.entity) es) (sym entities_are) (no_ends titles r.placed r.is_first.entities));
-          seeing = none_seeing timers.credit begun.w r.begun r.first.entities r.first.ends
-              (subst (λ (es : List Placed). AllByRecursion (λ (one : Placed). HasNoEnd one.entity) es) (sym entities_are) (no_ends titles r.placed r.is_first.entities));
-          short = subst AreShort (sym r.starts.made_is)
-              (aside_short [] (events.Tick 0 ∷ told r.starts.ups) (λ end. tt) (are_aside (events.Tick 0 ∷ told r.starts.ups) (record { submits = λ end. refl; shows = λ end. refl; makes = refl }, told_quiet r.starts.ups)));
-        };
+        known = first_known;
         carries = subst (λ (c : C). Carries timers begun.w.base (link c)) (sym carrier_is)
             (start_goes (IsOffered timers) (late_grows timers) timers.life link steps law begun.w.base titles r.made r.starts.below r.starts.ups r.is_first.carrier_is at_zero r.starts.gathers);
       };

@@ -6,7 +6,7 @@ use Rattle.osi_base.specs.Calls.{Call}
 use Rattle.tpdu.specs.declared.tpdu.Tpdu.{Tpdu}
 use Rattle.tp4_number.specs.Number.{whole}
 use Rattle.law_tp4_recovery.specs.Speaking.{Knows}
-use Rattle.tp4_sending.specs.FlowSender.{FlowSender}
+use Rattle.tp4_sending.specs.SendingHalf.{FlowSender}
 use Rattle.tp4_conn.specs.End.{End}
 use Rattle.tp4_conn.specs.Table.{Event as Happens, Took, stepped}
 use Rattle.tp4_conn.specs.declared.halves.Halves.{Halves}
@@ -15,7 +15,7 @@ use Rattle.law_tp4_credit.specs.Giving.{EventGives, Gives}
 use Rattle.law_recovery_ends.specs.Knowing.{HasHeard, StageKnows}
 use Rattle.tp4_entity.specs.Entity.{Entity}
 use Rattle.script_journal.specs.declared.event.Event.{Event}
-use Rattle.script_journal.specs.Lawful.{ArePartners}
+use Rattle.script_journal.specs.Partner.{ArePartners}
 use Rattle.law_tp4_history.specs.Tracks.{Whole}
 use Rattle.tp4_world.specs.World.{World, entity_at}
 use Rattle.law_tp4_lawful.specs.Called.{AreHonestCalls}

@@ -7,7 +7,7 @@ use Rattle.tpdu.specs.declared.tpdu.Tpdu.TheVariants.{Ak}
 use Rattle.tp4_number.specs.Traffic.{ReadsRightly}
 use Rattle.law_tp4_recovery.specs.Speaking.{Knows}
 use Rattle.law_tp4_recovery.specs.Views.{AreViews, said}
-use Rattle.tp4_sending.specs.FlowSender.{FlowSender, block_in}
+use Rattle.tp4_sending.specs.SendingHalf.{FlowSender, block_in}
 use Rattle.tp4_conn.specs.Table.{Took}
 use Rattle.tp4_conn.specs.declared.states.StateData.{StateData}
 use Rattle.tp4_conn.specs.declared.states.StateData.TheVariants.{Opened}
@@ -15,7 +15,7 @@ use Rattle.tp4_conn.specs.declared.halves.Halves.{Halves}
 use Rattle.tp4_conn.specs.declared.timers.Timers.{Timers}
 use Rattle.law_recovery_ends.specs.Knowing.{IsFreshView}
 use Rattle.law_recovery_ends.specs.Lines.{WasSaid}
-use Rattle.script_journal.specs.Lawful.{ArePartners}
+use Rattle.script_journal.specs.Partner.{ArePartners}
 use Rattle.script_journal.specs.declared.event.Event.{Event}
 use Rattle.law_tp4_history.specs.Ends.{Ak as Said, Offer, Sent}
 use Rattle.law_tp4_history.specs.Tracks.{Whole}

@@ -10,10 +10,10 @@ use Rattle.nsap.specs.Address.{selector_of}
 use Rattle.tpdu.specs.Values.{TpduAndSum}
 use Rattle.tp4_number.specs.Number.{whole}
 use Rattle.law_tp4_recovery.specs.Views.{IsNoOlder, View}
-use Rattle.tp4_flow.specs.Half.{Half, empty}
+use Rattle.tp4_flow.specs.ReceivingHalf.{Half, empty}
 use Rattle.tpdu.specs.declared.service.Options.{Options}
 use Rattle.tp4_flow.specs.declared.step.EndEvent.{EndEvent}
-use Rattle.tp4_sending.specs.FlowSender.{FlowSender, fresh, no_urgent}
+use Rattle.tp4_sending.specs.SendingHalf.{FlowSender, fresh, no_urgent}
 use Rattle.law_recovery_pair.specs.Fitting.{Fits}
 use Rattle.tp4_conn.specs.declared.end_record.EndRecord.{EndRecord}
 use Rattle.tp4_conn.specs.declared.halves.Halves.{Halves}

@@ -4,7 +4,8 @@ use Rattle.std.specs.Prelude.{slice_get}
 use Rattle.std.specs.List.{Contains}
 use Rattle.script_journal.specs.declared.event.Event.{Event}
 use Rattle.script_journal.specs.declared.event.Event.TheVariants.{Joined}
-use Rattle.script_journal.specs.Lawful.{AreEnds, AreQueues, IsFront, IsQueue, Marked, Normal, Expedited, befores, expediteds, normals, shown, submitted}
+use Rattle.script_journal.specs.Lawful.{AreQueues, IsFront, IsQueue, Marked, Normal, Expedited, befores, expediteds, normals, shown, submitted}
+use Rattle.script_journal.specs.Partner.{AreEnds}
 use Rattle.law_relay.specs.Through.{IsMarkedFront, IsCalled, IsThrough, Relays}
 use Rattle.law_tp4_history.proofs.Marks.{befores_kept, expediteds-append, normals-append}
 

@@ -8,7 +8,9 @@ use Rattle.script_journal.specs.declared.event.Event.TheVariants as events
 use Rattle.script_journal.specs.declared.event.Event.TheVariants.{Connect, Incoming}
 use Rattle.script_journal.specs.declared.event.Indication.{Indication}
 use Rattle.script_journal.specs.declared.event.Request.{Request}
-use Rattle.script_journal.specs.Lawful.{AreEnds, AreQueues, HasPartner, IsLatest, IsLawful, IsOf, IsQueue, KeepsSilence, Lawful, Makes, MakesAt, Marked, Normal, Expedited, Partner, shown, submitted}
+use Rattle.script_journal.specs.Lawful.{AreQueues, HasPartner, IsLawful, IsQueue, Lawful, Makes, Marked, Normal, Expedited, shown, submitted}
+use Rattle.script_journal.specs.Partner.{AreEnds, IsLatest, Partner}
+use Rattle.script_journal.specs.Silence.{IsOf, KeepsSilence, MakesAt}
 use Rattle.script_journal.specs.RawLawful.{RawLawful, clock_after, clock_from, tick_after}
 use Rattle.law_relay.specs.Notes.{is_note, plain}
 use Rattle.tpdu.specs.declared.service.EndTold.TheVariants as tells

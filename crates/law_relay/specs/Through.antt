@@ -1,7 +1,8 @@
 -- What is shown behind a relay (X.214, two queues for each connection).
 use Rattle.std.specs.Prelude.{◌≡◌, ℕ, List, []}
 use Rattle.std.specs.List.{Contains}
-use Rattle.script_journal.specs.Lawful.{AreEnds, IsQueue, shown, submitted}
+use Rattle.script_journal.specs.Lawful.{IsQueue, shown, submitted}
+use Rattle.script_journal.specs.Partner.{AreEnds}
 use Rattle.script_journal.specs.declared.event.Event.{Event}
 use Rattle.script_journal.specs.declared.event.Event.TheVariants as events
 pub use Rattle.tp4_relay.specs.Relaying.{AreJoinedOnce, IsCalled, IsMarkedFront, Relays, RelaysUnits}

@@ -50,6 +50,7 @@ use Rattle.tp4_world.specs.Total.{CanConnect, CanRun, IsReady}
 use Rattle.tp4_world.specs.World.{World, entity_at}
 use Rattle.script_world.specs.steps.Transported.{Serving}
 use Rattle.law_relay_run.specs.Services.{AsksEnd, AsksFor, IsInOrder, ends_of, has_system, is_done}
+use Rattle.law_relay_run.proofs.Playing.{HasRow}
 use Rattle.law_relay_run.proofs.OctetSteps.{HoldsOctets, TellsOctets, goes}
 use Rattle.law_relay_run.proofs.OneRun.{call_line}
 use Rattle.law_relay_run.proofs.Ordering.{call_order, connect_order}
@@ -272,9 +273,6 @@ module _ {C : Type 0} (link : C → Link (List ℕ)) (steps : C → Call (List �
   abbrev calls : World C → ℕ → UserCall → Bool → List Event → World C → Type 0
   calls = AsksEnd link steps
 
-  abbrev HasRow : World C → RelayRow → Type 0
-  HasRow world row = has_system world row.system
-
   -- the network is ready, and what is kept may be done; it is tick `tick` at most, and the systems that are needed are there
   pub record Able (world : World C) (kept : Kept) : Type 0 where
     pub ready : IsReady is_nsap link (Serving link steps) world
@@ -287,6 +285,22 @@ module _ {C : Type 0} (link : C → Link (List ℕ)) (steps : C → Call (List �
     pub leads : AllByRecursion (RowLeads titles) kept.rows
     pub rows : AllByRecursion RowInOctets kept.rows
     pub pairs : ArePairs kept.pairs
+
+  -- the same in a network in which the systems stay
+  pub able_on : (old new : World C) (kept : Kept) → Able old kept → IsReady is_nsap link (Serving link steps) new → IsInOrder link new → HoldsOctets new → (link new.carrier).clock ≤ tick
+      → ((system : ℕ) → has_system old system → has_system new system) → Able new kept
+  able_on old new kept a ready order holds clock still = record {
+    ready = ready;
+    order = order;
+    holds = holds;
+    clock = clock;
+    needed = λ system is. still system (a.needed system is);
+    has = all_each (HasRow old) (HasRow new) kept.rows (λ row there. still row.system there) a.has;
+    credit = a.credit;
+    leads = a.leads;
+    rows = a.rows;
+    pairs = a.pairs;
+  }
 
   -- more was told
   told_able : (world : World C) (kept : Kept) (made : List Event) → AllByRecursion TellsOctets made → Able world kept → Able world (kept_after kept made)
@@ -337,18 +351,7 @@ module _ {C : Type 0} (link : C → Link (List ℕ)) (steps : C → Call (List �
         made = w.made;
         new = w.new;
         asks = asked;
-        able = told_able w.new kept w.made w.tells (record {
-          ready = w.ready;
-          order = call_order link steps old w.new end call w.made c a.order;
-          holds = w.holds;
-          clock = omega (arith, clock_is, was);
-          needed = λ system is. still system (a.needed system is);
-          has = all_each (HasRow old) (HasRow w.new) kept.rows (λ row h. still row.system h) a.has;
-          credit = a.credit;
-          leads = a.leads;
-          rows = a.rows;
-          pairs = a.pairs;
-        });
+        able = told_able w.new kept w.made w.tells (able_on old w.new kept a w.ready (call_order link steps old w.new end call w.made c a.order) w.holds (omega (arith, clock_is, was)) still);
       }
 
   record ConnectDone (old : World C) (kept : Kept) (system : ℕ) (request : ConnectRequest) : Type 0 where
@@ -404,18 +407,7 @@ module _ {C : Type 0} (link : C → Link (List ℕ)) (steps : C → Call (List �
         made = w.made;
         new = w.new;
         asks = begun;
-        able = told_able w.new kept w.made w.tells (record {
-          ready = w.ready;
-          order = connect_order link steps old w.new row.system (request_for row heard) w.made c a.order;
-          holds = w.holds;
-          clock = omega (arith, clock_is, was);
-          needed = λ system there_is. still system (a.needed system there_is);
-          has = all_each (HasRow old) (HasRow w.new) kept.rows (λ x h. still x.system h) a.has;
-          credit = a.credit;
-          leads = a.leads;
-          rows = a.rows;
-          pairs = a.pairs;
-        });
+        able = told_able w.new kept w.made w.tells (able_on old w.new kept a w.ready (connect_order link steps old w.new row.system (request_for row heard) w.made c a.order) w.holds (omega (arith, clock_is, was)) still);
       }
 
   -- ---- about an event

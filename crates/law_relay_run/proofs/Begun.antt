@@ -13,11 +13,13 @@ use Rattle.script_setup.proofs.Entities.{are_timed}
 use Rattle.law_setup.proofs.Peopled.{entities_new}
 use Rattle.law_setup.proofs.Placing.{present}
 use Rattle.tp4_conn.specs.End.{End}
+use Rattle.tp4_conn.specs.declared.timers.Timers.{Timers}
 use Rattle.tp4_entity.specs.Entity.{Entity, end_at}
 use Rattle.law_tp4_lawful.proofs.WorldPlaces.{none_some}
 use Rattle.law_tp4_lawful.proofs.WorldStarts.{found, no_end_at}
 use Rattle.tp4_relay.specs.Kept.{nothing_kept}
 use Rattle.tp4_relay.specs.declared.row.RelayRow.{RelayRow}
+use Rattle.tp4_relay.specs.steps.Tables.{IsTidy}
 use Rattle.tp4_world.specs.First.{IsNew}
 use Rattle.tp4_world.specs.Run.{Starts}
 use Rattle.tp4_world.specs.World.{World, entity_at}
@@ -31,6 +33,18 @@ pub no_end : (setup : SetUp) (system : ℕ) (e : Entity) (reference : ℕ) (end 
 no_end setup system e reference end is at =
     let new = found (IsNew (titles_of setup)) (entities_of setup) system e (entities_new setup) is in
     none_some end (sym (no_end_at new.one.entity new.holds.none reference) ∙ ap (λ (x : Entity). end_at x reference) new.entity_is ∙ at)
+
+-- where nothing is kept, it is in order
+pub nothing_tidy : (rows : List RelayRow) (rules : Timers) → IsTidy (nothing_kept rows rules)
+nothing_tidy rows rules = record {
+  rise = λ i j d less low. absurd (omega (arith, low));
+  inbounds = λ i j d less low. absurd (omega (arith, low));
+  outbounds = λ i j d less low. absurd (omega (arith, low));
+  claimed = tt;
+  unclaimed = tt;
+  claims_named = tt;
+  outbounds_named = tt;
+}
 
 module _ {N : Type 0} (link : N → Link (List ℕ)) (steps : N → Call (List ℕ) → N → Type 0) where
   pub first_order : (setup : SetUp) (net : N) (first : World N) (made : List Event) → Starts link steps net (entities_of setup) made first → IsInOrder link first
@@ -61,13 +75,5 @@ module _ {N : Type 0} (link : N → Link (List ℕ)) (steps : N → Call (List �
         };
         has = rows_there setup first setup.relays entities well.relays;
         credit = omega (arith, credit);
-        tidy = record {
-          rise = λ i j d less low. absurd (omega (arith, low));
-          inbounds = λ i j d less low. absurd (omega (arith, low));
-          outbounds = λ i j d less low. absurd (omega (arith, low));
-          claimed = tt;
-          unclaimed = tt;
-          claims_named = tt;
-          outbounds_named = tt;
-        };
+        tidy = nothing_tidy (rows_of setup) (timers_of setup.life setup.limits);
       }

@@ -2,11 +2,11 @@
 use Rattle.std.proofs.Common.{◌≡◌, ℕ, ◌==◌, Bool, true, false, if◌then◌else◌, List, [], ◌∷◌, ◌++◌, Option, Some, None, refl}
 use Rattle.std.proofs.lemmas.Bool.{false≢true}
 use Rattle.tp4_number.proofs.Past.{if_kept}
-use Rattle.tp4_flow.specs.Half.{Half, half_granted}
+use Rattle.tp4_flow.specs.ReceivingHalf.{Half, half_granted}
 use Rattle.tpdu.specs.declared.service.Options.{Options}
 use Rattle.tp4_flow.specs.declared.step.EndEvent.{EndEvent}
 use Rattle.tp4_flow.specs.declared.step.What.TheVariants as whats
-use Rattle.tp4_sending.specs.FlowSender.{FlowSender, at, submitted, urged}
+use Rattle.tp4_sending.specs.SendingHalf.{FlowSender, at, submitted, urged}
 use Rattle.tp4_conn.specs.declared.end_record.EndRecord.{EndRecord}
 use Rattle.tp4_conn.specs.declared.call.CallRefusal.{CallRefusal}
 use Rattle.tp4_conn.specs.declared.call.CallRefusal.TheVariants as refused

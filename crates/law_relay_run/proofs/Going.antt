@@ -19,7 +19,6 @@ use Rattle.script_world.specs.steps.Transported.{Serving}
 use Rattle.tp4_number.specs.Number.{wire}
 use Rattle.tp4_relay.specs.declared.row.RelayRow.{RelayRow}
 use Rattle.tp4_relay.specs.Kept.{Kept}
-use Rattle.tp4_relay.proofs.Tidy.{all_each}
 use Rattle.tp4_world.proofs.Serving.{serves_on}
 use Rattle.tp4_world.specs.Run.{Settles}
 use Rattle.tp4_world.specs.Total.{CanRun}
@@ -27,7 +26,7 @@ use Rattle.tp4_world.specs.World.{World}
 use Rattle.law_relay_run.specs.Asked.{is_relayed}
 use Rattle.law_relay_run.specs.Relays.{Answers, Asking, Idle, LastTurn, OneTurn, Part, PumpsAfter, RelayRun, RunsPart, Settling, Turns, is_more}
 use Rattle.law_relay_run.specs.Services.{has_system}
-use Rattle.law_relay_run.proofs.Answering.{Able, IsReadable, PumpDone, line_readable, some_pump}
+use Rattle.law_relay_run.proofs.Answering.{Able, IsReadable, PumpDone, able_on, line_readable, some_pump}
 use Rattle.law_relay_run.proofs.OctetSteps.{goes}
 use Rattle.law_relay_run.proofs.Playing.{Plays}
 use Rattle.law_relay_run.proofs.Running.{answer_leaves, pumped, settles}
@@ -36,9 +35,6 @@ module _ {C : Type 0} (link : C → Link (List ℕ)) (steps : C → Call (List �
     (titles : List (List ℕ)) (Needs : ℕ → Type 0) where
   abbrev AbleAt : ℕ → World C → Kept → Type 0
   AbleAt tick world kept = Able link steps keeps titles tick Needs world kept
-
-  abbrev HasRow : World C → RelayRow → Type 0
-  HasRow world row = has_system world row.system
 
   later_able : (tick : ℕ) (world : World C) (kept : Kept) → AbleAt tick world kept → AbleAt (tick + 1) world kept
   later_able tick world kept a = record {
@@ -78,18 +74,7 @@ module _ {C : Type 0} (link : C → Link (List ℕ)) (steps : C → Call (List �
         made = w.made;
         new = w.new;
         answers = w.runs;
-        able = record {
-          ready = w.ready;
-          order = l.plays.order;
-          holds = w.holds;
-          clock = omega (arith, was, now);
-          needed = λ system is_needed. still system (a.needed system is_needed);
-          has = all_each (HasRow old) (HasRow w.new) kept.rows (λ row there. still row.system there) a.has;
-          credit = a.credit;
-          leads = a.leads;
-          rows = a.rows;
-          pairs = a.pairs;
-        };
+        able = able_on link steps keeps titles (tick + 1) Needs old w.new kept (later_able tick old kept a) w.ready l.plays.order w.holds (omega (arith, was, now)) still;
         readable = line_readable (length w.new.ends) kept w.made l.line w.tells;
       }
 
@@ -113,18 +98,7 @@ module _ {C : Type 0} (link : C → Link (List ℕ)) (steps : C → Call (List �
       let still : (system : ℕ) → has_system old system → has_system w.new system = λ system there. among old.entities w.new.entities system stays.systems there in
       let was = a.clock in
       let now = stays.clock in
-      let able : AbleAt tick w.new kept = record {
-        ready = w.ready;
-        order = l.plays.order;
-        holds = w.holds;
-        clock = omega (arith, was, now);
-        needed = λ system is_needed. still system (a.needed system is_needed);
-        has = all_each (HasRow old) (HasRow w.new) kept.rows (λ row there. still row.system there) a.has;
-        credit = a.credit;
-        leads = a.leads;
-        rows = a.rows;
-        pairs = a.pairs;
-      } in
+      let able : AbleAt tick w.new kept = able_on link steps keeps titles tick Needs old w.new kept a w.ready l.plays.order w.holds (omega (arith, was, now)) still in
       let r = some_pump link steps keeps titles tick Needs w.new kept w.made (line_readable (length w.new.ends) kept w.made l.line w.tells) able in
       let after : PumpsAfter link steps (Settles link steps wire 0) old kept r.done w.made (w.made ++ r.made) r.new r.last =
       record { mid = w.new; rest = r.made; happens = w.runs; pumps = r.pumps; made_is = refl } in

@@ -31,7 +31,8 @@ use Rattle.tp4_entity.specs.Step.{connect_refusal, user_refusal}
 use Rattle.law_tp4_proper.specs.Octets.{HasOctets}
 use Rattle.law_tp4_proper.proofs.Octets.{octets_both}
 use Rattle.law_tp4_proper.proofs.Readings.{first_octets}
-use Rattle.tp4_world.specs.Run.{Acts, Arrives, BeginsAt, Calls, CallsAt, CallsBy, CallsEnd, ConnectsBy, Hears, HearsAll, HearsIf, IsRefused, NoneDue, NoneLeft, OneDue, OneMore, RunsLine, SendsTpdu, SendsTpdus, Settles, Ticks, TicksAll, TicksEntity, TooMany, clock_of, has_ended, is_for}
+use Rattle.tp4_world.specs.Run.{Acts, Arrives, BeginsAt, Calls, CallsAt, CallsBy, CallsEnd, ConnectsBy, Hears, HearsAll, HearsIf, IsRefused, NoneDue, NoneLeft, OneDue, OneMore, RunsLine, SendsTpdu, SendsTpdus, Settles, Ticks, TicksAll, TicksEntity, TooMany, clock_of, is_for}
+use Rattle.tp4_world.specs.Ended.{has_ended}
 use Rattle.tp4_world.specs.Total.{CanRun, ComesInOctets, HasRun, IsReady, Serves}
 use Rattle.tp4_world.specs.World.{World, end_numbered, entity_at}
 use Rattle.tp4_world.specs.declared.place.EndAt.{EndAt}

@@ -41,7 +41,7 @@ use Rattle.law_relay_run.specs.Services.{AsksEnd, AsksFor, ends_of, has_system, 
 use Rattle.law_relay_run.proofs.Allowing.{pair_allowed}
 use Rattle.law_relay_run.proofs.Joining.{JoinsNone, confirmed_opens, connect_asks, joined_linked, line_joins, line_opened}
 use Rattle.law_relay_run.proofs.Linking.{IsAccepted, IsOther, MayCall, call_kepts, connect_ran}
-use Rattle.law_relay_run.proofs.Playing.{Plays}
+use Rattle.law_relay_run.proofs.Playing.{HasRow, Plays}
 use Rattle.law_relay_run.proofs.Quieting.{call_quiet, connect_quiet}
 use Rattle.law_relay_run.proofs.Waits.{has_inbound, noted_named}
 use Rattle.law_relay_run.proofs.Walks.{after_append}
@@ -147,9 +147,6 @@ module _ {C : Type 0} (link : C → Link (List ℕ)) (steps : C → Call (List �
 
   abbrev calls : World C → ℕ → UserCall → Bool → List Event → World C → Type 0
   calls = AsksEnd link steps
-
-  abbrev HasRow : World C → RelayRow → Type 0
-  HasRow world row = has_system world row.system
 
   -- ---- one call
 

@@ -27,7 +27,7 @@ use Rattle.law_relay_run.specs.Asked.{is_relayed}
 use Rattle.law_relay_run.specs.Relays.{Answers, Asking, Idle, LastTurn, OneTurn, Part, PumpsAfter, RelayRun, RunsPart, Settling, Turns, part_of}
 use Rattle.law_relay_run.specs.Services.{IsInOrder, has_system}
 use Rattle.law_relay_run.proofs.Linking.{line_ran, ran_told}
-use Rattle.law_relay_run.proofs.Playing.{Plays}
+use Rattle.law_relay_run.proofs.Playing.{HasRow, Plays}
 use Rattle.law_relay_run.proofs.Pumping.{pump_plays}
 use Rattle.law_relay_run.proofs.Quieting.{line_quiet}
 use Rattle.law_relay_run.proofs.Serving.{world_serves}
@@ -39,9 +39,6 @@ line_tidy count kept (event ∷ line) tidy all =
     line_tidy count (noted kept event) line (tidy_more kept event tidy (passes_notable kept event (line_passes kept tidy event all.0))) all.2
 
 module _ {N : Type 0} (link : N → Link (List ℕ)) (steps : N → Call (List ℕ) → N → Type 0) (keeps : (old : N) (call : Call (List ℕ)) (new : N) → steps old call new → Keeps (link old) call (link new)) where
-  abbrev HasRow : World N → RelayRow → Type 0
-  HasRow world row = has_system world row.system
-
   -- what a line leaves before the pump
   pub record Leaves (old : World N) (kept : Kept) (made : List Event) (new : World N) : Type 0 where
     pub line : AreLine (length new.ends) kept made

@@ -33,7 +33,8 @@ use Rattle.tp4_entity.specs.declared.refusal.EntityRefusal.{EntityRefusal}
 use Rattle.tp4_entity.specs.Entity.{Entity, at, end_at}
 use Rattle.tp4_entity.specs.References.{is_free, least_free}
 use Rattle.tp4_entity.specs.Step.{calling_end, connect_refusal, connecting, user_refusal}
-use Rattle.tp4_world.specs.Run.{Acts, BeginsAt, Calls, CallsAt, CallsBy, CallsEnd, Connects, ConnectsBy, IsRefused, SendsTpdus, clock_of, has_ended, transport_wish}
+use Rattle.tp4_world.specs.Run.{Acts, BeginsAt, Calls, CallsAt, CallsBy, CallsEnd, Connects, ConnectsBy, IsRefused, SendsTpdus, clock_of, transport_wish}
+use Rattle.tp4_world.specs.Ended.{has_ended}
 use Rattle.tp4_world.specs.Telling.{call_events, drop_events, ends_with, event_for, events_after}
 use Rattle.tp4_world.specs.World.{World, end_numbered, entity_at, latest, with_entity}
 use Rattle.tp4_world.specs.declared.place.EndAt.{EndAt}

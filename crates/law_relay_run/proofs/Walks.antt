@@ -29,7 +29,8 @@ use Rattle.tp4_conn.specs.Table.{Ticked, Took, due, stepped}
 use Rattle.tp4_conn.proofs.Sizes.{read_sized}
 use Rattle.tp4_entity.specs.Association.{is_called, is_registered, met, met_at, met_by, new_end, requested, unmatched}
 use Rattle.tp4_entity.specs.Entity.{Acted, Entity, at, end_at, moved, there, with_end}
-use Rattle.tp4_entity.specs.References.{is_silent, least_free}
+use Rattle.tp4_entity.specs.References.{least_free}
+use Rattle.tp4_entity.specs.Silence.{is_silent}
 use Rattle.tp4_entity.specs.Step.{first_due, kept_end, ticking, ticking_at, ticking_end}
 use Rattle.tp4_entity.specs.Unit.{EndsWith, Faulty, HearsUnit, Separates, TakesBy, TakesUnit, Whole, all_met, extended_of, ignored}
 use Rattle.tp4_entity.proofs.Standings.{free_least, within}

@@ -23,7 +23,7 @@ use Rattle.script_lines.specs.declared.line.Line.TheVariants as lines
 use Rattle.script_lines.specs.Grammar.{line_read}
 use Rattle.script_lines.specs.Known.{Declared}
 use Rattle.script_lines.specs.Script.{Says}
-use Rattle.script_journal.specs.Lawful.{AreEnds}
+use Rattle.script_journal.specs.Partner.{AreEnds}
 use Rattle.law_tp4_history.specs.Journals.{IsAside}
 use Rattle.law_tp4_pair.specs.Claim.{AllShown, IsUndropped}
 use Rattle.law_tp4_lawful.proofs.WorldAsides.{AreQuiet, are_aside, told_quiet}

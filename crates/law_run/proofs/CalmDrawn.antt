@@ -9,7 +9,7 @@ use Rattle.script_lines.specs.declared.settings.Key.{Key}
 use Rattle.script_lines.specs.declared.settings.Key.TheVariants as keys
 use Rattle.script_lines.specs.declared.line.Line.{Line}
 use Rattle.script_lines.specs.declared.line.Line.TheVariants as lines
-use Rattle.law_tp4_pair.specs.Calm.{end_systems, intermediate_systems, lans}
+use Rattle.law_tp4_pair.specs.CalmScript.{end_systems, intermediate_systems, lans}
 use Rattle.script_setup.specs.SetUp.{System, SetUp, hop_to, routed, selected, set_up, titles_of, with_route, with_selector, with_time}
 use Rattle.script_setup.specs.Fitting.{Fits}
 use Rattle.script_setup.proofs.Elements.{push}

@@ -10,7 +10,7 @@ use Rattle.script_lines.specs.Grammar.{Reading, declared_by, line_for, new_syste
 use Rattle.script_lines.specs.Known.{Declared, KnownSystem, changed, end_of as end_of_known, with_changed}
 use Rattle.script_lines.specs.Names.{AreIntermediateSystems, NamesDeclared}
 use Rattle.script_lines.specs.Table.{row_of}
-use Rattle.law_tp4_pair.specs.Calm.{intermediate_systems}
+use Rattle.law_tp4_pair.specs.CalmScript.{intermediate_systems}
 use Rattle.script_setup.specs.Fitting.{Fits}
 use Rattle.script_setup.specs.SetUp.{SetUp}
 use Rattle.script_setup.proofs.Elements.{push, set_each}

@@ -20,7 +20,7 @@ use Rattle.clnp_system.specs.Setting.{Setting, is_group}
 use Rattle.law_clnp_fifo.specs.Calm.{AreBoth, IsCalmNet, end_row}
 use Rattle.script_lines.specs.declared.line.Line.{Line}
 use Rattle.script_lines.specs.declared.line.Line.TheVariants as lines
-use Rattle.law_tp4_pair.specs.Calm.{IsOneLan, IsRouted}
+use Rattle.law_tp4_pair.specs.CalmScript.{IsOneLan, IsRouted}
 use Rattle.script_setup.specs.SetUp.{System, SetUp, end_at, nodes_from, nodes_of, nothing_said, ports_at, rows_at, setting_of, titles_of}
 use Rattle.script_setup.specs.Fitting.{AreTitlesApart, IsWell}
 use Rattle.script_setup.proofs.Elements.{each}

@@ -10,7 +10,7 @@ use Rattle.script_lines.specs.Known.{Declared, nothing_declared}
 use Rattle.script_lines.specs.Names.{NamesDeclared}
 use Rattle.script_lines.specs.Script.{Says}
 use Rattle.script_lines.proofs.LineNames.{line_named}
-use Rattle.law_tp4_pair.specs.Calm.{IsCalmScript, IsSettledScript, intermediate_systems}
+use Rattle.law_tp4_pair.specs.CalmScript.{IsCalmScript, IsSettledScript, intermediate_systems}
 use Rattle.law_calm_run.specs.Run.{IsUnrouted}
 use Rattle.script_setup.specs.Fitting.{IsWell}
 use Rattle.script_setup.specs.SetUp.{SetUp, nothing_said, set_up}

@@ -2,7 +2,8 @@
 -- that began again is silent in any case.
 use Rattle.std.proofs.Common.{◌≡◌, ℕ, List, None}
 use Rattle.script_journal.specs.declared.event.Event.{Event}
-use Rattle.script_journal.specs.Lawful.{KeepsSilence, Lawful}
+use Rattle.script_journal.specs.Lawful.{Lawful}
+use Rattle.script_journal.specs.Silence.{KeepsSilence}
 use Rattle.script_lines.specs.declared.line.Line.{Line}
 use Rattle.script_lines.specs.Known.{Declared, nothing_declared}
 use Rattle.script_lines.specs.Script.{Says}

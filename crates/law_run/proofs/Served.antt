@@ -3,7 +3,7 @@ use Rattle.std.proofs.Common.{◌≡◌, ℕ, List, ◌++◌, subst}
 use Rattle.line_loop.specs.Course.{Runs}
 use Rattle.line_loop.specs.Lines.{open_line, last_line}
 use Rattle.script_journal.specs.declared.event.Event.{Event}
-use Rattle.law_tp4_pair.specs.Calm.{IsCalmScript}
+use Rattle.law_tp4_pair.specs.CalmScript.{IsCalmScript}
 use Rattle.law_run.specs.Bench.{Bench, bench_meaning, first_bench}
 use Rattle.law_run.specs.Calm.{ServesUsers}
 use Rattle.law_run.specs.Laws.{ServesCalmScripts}

@@ -3,7 +3,7 @@
 -- stopped at its number, nothing is missing then.
 use Rattle.std.specs.Prelude.{◌≡◌, ℕ, List, [], ◌∷◌, ◌++◌, Ok, Some}
 use Rattle.std.specs.List.{AllByRecursion, Contains}
-use Rattle.script_journal.specs.Lawful.{AreEnds}
+use Rattle.script_journal.specs.Partner.{AreEnds}
 use Rattle.script_journal.specs.declared.event.Event.{Event}
 use Rattle.script_journal.specs.declared.event.Event.TheVariants as events
 use Rattle.script_journal.specs.declared.event.Indication.{Indication}
@@ -14,7 +14,7 @@ use Rattle.tpdu.specs.declared.service.Options.{Options}
 use Rattle.script_lines.specs.Grammar.{line_read}
 use Rattle.script_lines.specs.Known.{Declared, nothing_declared}
 use Rattle.script_lines.specs.Script.{Says}
-use Rattle.law_tp4_pair.specs.Calm.{IsCalmScript}
+use Rattle.law_tp4_pair.specs.CalmScript.{IsCalmScript}
 use Rattle.law_tp4_pair.specs.Claim.{AllShown, IsUndropped}
 use Rattle.tp4_entity.specs.Entity.{Entity}
 use Rattle.tp4_world.specs.World.{entity_at}

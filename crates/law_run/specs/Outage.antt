@@ -9,9 +9,9 @@ use Rattle.script_lines.specs.Injecting.{HasNoInject}
 use Rattle.script_lines.specs.declared.line.Line.{Line}
 use Rattle.script_lines.specs.declared.line.Line.TheVariants as lines
 use Rattle.tp4_conn.specs.declared.timers.Timers.{Timers}
-use Rattle.law_tp4_pair.specs.Calm.{IsOneLan, IsSettledScript}
+use Rattle.law_tp4_pair.specs.CalmScript.{IsOneLan, IsSettledScript}
 use Rattle.law_recovery_service.specs.Kept.{AreKept, AreKeptCalm}
-use Rattle.law_recovery_run.specs.Run.{IsKept}
+use Rattle.law_recovery_run.specs.Losses.{IsKept}
 use Rattle.law_run.specs.World.{TransportNet, WorldRun, WorldRuns, link_of_net, running}
 
 -- two end systems on one LAN; and after the start the lines up to tick s, those of the outage up to its `settle`, and those behind it, of which each that does anything is settled

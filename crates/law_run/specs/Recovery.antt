@@ -8,8 +8,9 @@ use Rattle.script_journal.specs.declared.event.Event.{Event}
 use Rattle.script_lines.specs.declared.line.Line.{Line}
 use Rattle.script_lines.specs.declared.line.Line.TheVariants as lines
 use Rattle.tp4_conn.specs.declared.timers.Timers.{Timers}
-use Rattle.law_tp4_pair.specs.Calm.{IsOneLan}
-use Rattle.law_recovery_run.specs.Run.{IsKept, Recovers}
+use Rattle.law_tp4_pair.specs.CalmScript.{IsOneLan}
+use Rattle.law_recovery_run.specs.Run.{Recovers}
+use Rattle.law_recovery_run.specs.Losses.{IsKept}
 use Rattle.law_run.specs.World.{TransportNet, WorldRun, WorldRuns, link_of_net, running}
 
 -- two end systems on one LAN; and after the start, from one `settle` on, each line that does anything is settled, and none before it is an `inject` line

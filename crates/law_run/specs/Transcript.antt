@@ -8,7 +8,7 @@ use Rattle.line_loop.specs.Limits.{most_octets, most_read}
 use Rattle.line_loop.specs.Outcome.{Outcome}
 use Rattle.script_lines.specs.Known.{nothing_declared}
 use Rattle.script_lines.specs.Script.{Says}
-use Rattle.law_tp4_pair.specs.Calm.{IsCalmScript}
+use Rattle.law_tp4_pair.specs.CalmScript.{IsCalmScript}
 use Rattle.script_bench.specs.Claims.{AllLines, IsRun as IsRunOf, ToLimit, ToLimitAtEnd, WholeLines, lines_handled as lines_handled_of, lines_run as lines_run_of}
 pub use Rattle.script_bench.specs.Claims.{texts_in}
 use Rattle.script_bench.specs.Told.{OutcomeRun as OutcomeRunOf, RanScript as RanScriptOf}
@@ -19,7 +19,8 @@ use Rattle.law_run.specs.Outage.{KeepsThrough, RunsThroughOutage}
 use Rattle.law_run.specs.Recovery.{RunsRecovering}
 use Rattle.law_run.specs.Serving.{ServesAgain}
 use Rattle.law_run.specs.World.{TransportNet, frozen_of, life_of, running, strays_of, titles_of, world_acts, WorldRun}
-use Rattle.script_journal.specs.Lawful.{KeepsSilence, Lawful}
+use Rattle.script_journal.specs.Lawful.{Lawful}
+use Rattle.script_journal.specs.Silence.{KeepsSilence}
 use Rattle.script_journal.specs.RawLawful.{RawLawful}
 use Rattle.line_loop.specs.Writing.{IsPrefix}
 use Rattle.tp4_conn.specs.declared.timers.Timers.{Timers}

@@ -11,7 +11,8 @@ ghost use Rattle.script_lines.specs.Injecting.{HasNoInject};
 ghost use Rattle.script_lines.specs.Known.{Declared, nothing_declared};
 ghost use Rattle.script_lines.specs.Script.{Says};
 ghost use Rattle.law_run.specs.World.{World, WorldRun, frozen_of, life_of, strays_of, titles_of};
-ghost use Rattle.script_journal.specs.Lawful.{KeepsSilence, Lawful};
+ghost use Rattle.script_journal.specs.Lawful.{Lawful};
+ghost use Rattle.script_journal.specs.Silence.{KeepsSilence};
 ghost use Rattle.script_journal.specs.RawLawful.{RawLawful};
 
 use script_world::RoutedNet;

@@ -1,5 +1,5 @@
 -- The events of ends and of what a network hands up: each has a text that tells it, where what it tells is in octets and in range.
-use Rattle.std.proofs.Common.{◌≡◌, ◌≤◌, ◌<◌, ℕ, zero, suc, ◌+◌, Bool, true, false, ◌==◌, List, [], ◌∷◌, ◌++◌, length, take, refl, subst, arith, if◌then◌else◌, length-append}
+use Rattle.std.proofs.Common.{◌≡◌, ◌≤◌, ◌<◌, ℕ, zero, suc, ◌+◌, Bool, true, false, ◌==◌, List, [], ◌∷◌, ◌++◌, drop, length, take, refl, subst, arith, if◌then◌else◌, length-append}
 use Rattle.std.specs.Prelude.{codes, ◌<◌, ℕ, ◌+◌, List, [], ◌∷◌}
 use Rattle.std.specs.List.{AllByRecursion}
 use Rattle.hex.specs.Hex.{IsBytes}
@@ -13,7 +13,9 @@ use Rattle.osi_base.specs.declared.unit.Up.TheVariants.{Unit as Came, Note as No
 use Rattle.law_carrier_answers.specs.Answers.{AreOctets}
 use Rattle.script_lines.specs.Tags.{Tags}
 use Rattle.script_journal.specs.Injective.{AreTold, EachTold, IsTold, plain}
-use Rattle.script_journal.specs.Told.{Cell, Number, Octets, Preferred, cells_of, drop_text, format_text, gone_cell, held_text, option_cells, state_text, tpdu_cause_text, tpdu_text}
+use Rattle.script_journal.specs.Told.{cells_of}
+use Rattle.script_journal.specs.CauseWords.{drop_text, format_text, gone_cell, held_text, option_cells, state_text, tpdu_cause_text, tpdu_text}
+use Rattle.script_journal.specs.Cells.{Cell, Number, Octets, Preferred}
 use Rattle.script_journal.specs.declared.cause.Refused.{Refused}
 use Rattle.script_journal.specs.declared.cause.Refused.TheVariants as refusals
 use Rattle.tpdu.specs.declared.service.State.{State}
@@ -134,28 +136,10 @@ module _ (tags : Tags) where
 
   module _ (system : ℕ) (declared : system < length tags.systems) (own : List ℕ) (own_octets : AreOctets own) (own_some : 0 < length own) where
     event_told : (n k number reference : ℕ) (what : What) → number ≤ n + 1 → k ≤ n → n < 4294967296 → IsToldWhat k reference what → IsToldEvent tags (event_for system own number reference what)
-    event_told n k number reference (whats.Incoming from partner calling called options octets) up some low h = (
-      refl,
-      (
-        omega (arith, up, low),
-        (
-          declared,
-          (
-            omega (arith, h.0),
-            (
-              (octets_bytes from h.2, h.3),
-              (
-                omega (arith, h.1),
-                (
-                  octets_bytes calling h.4,
-                  ((octets_bytes own own_octets, own_some), (octets_bytes called h.5, options_told options (Octets octets ∷ []) h.6 (octets_bytes octets h.7, tt))),
-                ),
-              ),
-            ),
-          ),
-        ),
-      ),
-    )
+    event_told n k number reference (whats.Incoming from partner calling called options octets) up some low h =
+        let behind : AreTold tags (drop 5 (cells_of (event_for system own number reference (whats.Incoming from partner calling called options octets)))) =
+        (omega (arith, h.1), (octets_bytes calling h.4, ((octets_bytes own own_octets, own_some), (octets_bytes called h.5, options_told options (Octets octets ∷ []) h.6 (octets_bytes octets h.7, tt))))) in
+        (refl, (omega (arith, up, low), (declared, (omega (arith, h.0), ((octets_bytes from h.2, h.3), behind)))))
     event_told n k number reference (whats.End (tells.Accept options octets)) up some low h = (refl, (omega (arith, up, low), options_told options (Octets octets ∷ []) h.0 (octets_bytes octets h.1, tt)))
     event_told n k number reference (whats.End (tells.Confirm options octets)) up some low h = (refl, (omega (arith, up, low), options_told options (Octets octets ∷ []) h.0 (octets_bytes octets h.1, tt)))
     event_told n k number reference (whats.End (tells.Got octets)) up some low h = (refl, (omega (arith, up, low), (octets_bytes octets h, tt)))

@@ -17,7 +17,8 @@ use Rattle.lan_bag.specs.Bag.{Bag, BagStep, link_of, new_bag, picked_in}
 use Rattle.lan_bag.specs.Frames.{is_taken as is_answer_taken}
 use Rattle.inactive_step.specs.declared.row.InactiveRow.{InactiveRow}
 use Rattle.inactive_step.specs.declared.row.Way.{Way}
-use Rattle.inactive_step.specs.Frames.{frame_on, read_up, read_ups, unit_between, unit_in, way_from}
+use Rattle.inactive_step.specs.Frames.{frame_on, read_up, read_ups, unit_between, unit_in}
+use Rattle.inactive_step.specs.Way.{way_from}
 use Rattle.inactive_step.specs.Network.{Inactive}
 use Rattle.inactive_step.specs.Rows.{row_on}
 use Rattle.inactive_step.specs.Step.{Brings, InactiveArrives, InactiveOffers, InactiveTakesUp, InactiveTicks, Long, NoWay, Sent, plain_wish}

@@ -41,15 +41,16 @@ use Rattle.clnp_system.specs.Reporting.{Discarded, Discards, discarded_octets, d
 use Rattle.clnp_system.specs.Setting.{Setting, bound_of, is_own_system}
 use Rattle.clnp_system.specs.Tables.{rows_tables}
 use Rattle.clnp_system.specs.Ticking.{NodeTicks, expiry_note}
-use Rattle.clnp_system.specs.Verdicts.{aim_of, by_aim, for_this, is_titled, to_destination, to_entry, verdict, whole_or_part}
-use Rattle.clnp_system.specs.declared.aim.Aim.{Aim}
-use Rattle.clnp_system.specs.declared.aim.Aim.TheVariants.{Free, Entry, Forbidden}
+use Rattle.clnp_system.specs.Verdicts.{by_aim, for_this, is_titled, to_destination, to_entry, verdict, whole_or_part}
+use Rattle.clnp_system.specs.SourceRouting.{aim_of}
+use Rattle.clnp_system.specs.declared.source_routing.Aim.{Aim}
+use Rattle.clnp_system.specs.declared.source_routing.Aim.TheVariants.{Free, Entry, Forbidden}
 use Rattle.clnp_system.specs.declared.verdict.Verdict.{Verdict}
 use Rattle.clnp_system.specs.declared.verdict.Verdict.TheVariants.{Discard, Tell, Take, Join, Onward}
 use Rattle.law_carrier_answers.specs.Answers.{AreOctets}
 use Rattle.script_lines.specs.Tags.{Tags}
 use Rattle.script_journal.specs.Injective.{plain}
-use Rattle.script_journal.specs.Told.{hello_cause_text, hello_text}
+use Rattle.script_journal.specs.CauseWords.{hello_cause_text, hello_text}
 use Rattle.law_clnp_answers.specs.Standing.{IsFrame, IsSnpa}
 use Rattle.law_clnp_answers.proofs.written.Discarding.{code_fits}
 use Rattle.law_clnp_answers.proofs.written.Fitting.{FitsOption}

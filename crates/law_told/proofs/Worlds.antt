@@ -1,6 +1,6 @@
 -- Each line of a network with its transport entities has events that their text tells: between two calls the carrier stands, its entities are at rest and in
 -- octets, and their ends keep octets; so each call of the carrier may be asked, what comes up is told, and what an entity tells is in octets and in range.
-use Rattle.std.proofs.Common.{◌≡◌, inl, inr, ◌≤◌, ◌<◌, ◌∙◌, ◌^◌, ℕ, zero, suc, ◌+◌, ◌-◌, ◌==◌, Bool, true, false, List, [], ◌∷◌, ◌++◌, length, slice_get, Option, Some, None, refl, sym, ap, subst, arith, length-append}
+use Rattle.std.proofs.Common.{◌≡◌, inl, inr, ◌≤◌, ◌<◌, ◌∙◌, ◌^◌, ℕ, zero, suc, ◌+◌, ◌-◌, ◌==◌, Bool, true, false, List, [], ◌∷◌, ◌++◌, drop, length, slice_get, Option, Some, None, refl, sym, ap, subst, arith, length-append}
 use Rattle.std.specs.Prelude.{nat_lt, not}
 use Rattle.std.specs.List.{AllByRecursion}
 use Rattle.std.proofs.lemmas.Bool.{and_parts, ltb-false}
@@ -29,6 +29,8 @@ use Rattle.script_journal.specs.declared.cause.Refused.TheVariants as refusals
 use Rattle.script_journal.specs.declared.event.Event.{Event}
 use Rattle.script_journal.specs.declared.event.Event.TheVariants as events
 use Rattle.net_world.specs.Run.{Passes, raw_unit}
+use Rattle.script_journal.specs.Injective.{AreTold}
+use Rattle.script_journal.specs.Told.{cells_of}
 use Rattle.net_world.specs.Told.{picked_event, refusal, sent_event, told}
 use Rattle.tpdu.specs.Writing.{IsWritten, is_summed}
 use Rattle.tpdu.proofs.Spellings.{one_spelling}
@@ -41,7 +43,8 @@ use Rattle.tp4_conn.specs.declared.call.ConnectRequest.{ConnectRequest}
 use Rattle.tp4_conn.specs.declared.call.UserCall.{UserCall}
 use Rattle.tp4_conn.specs.declared.call.UserCall.TheVariants as asks
 use Rattle.tp4_entity.specs.Entity.{Acted, Entity}
-use Rattle.tp4_entity.specs.References.{is_silent, least_free}
+use Rattle.tp4_entity.specs.References.{least_free}
+use Rattle.tp4_entity.specs.Silence.{is_silent}
 use Rattle.tp4_entity.specs.Step.{call_of, calling, connect_refusal, connecting, first_due, restarted, ticking, user_refusal}
 use Rattle.tp4_entity.specs.declared.refusal.ConnectRefusal.{ConnectRefusal}
 use Rattle.tp4_entity.specs.declared.refusal.EntityRefusal.{EntityRefusal}
@@ -53,7 +56,8 @@ use Rattle.law_tp4_proper.proofs.Heards.{restarting_in, taken_in, taken_rests}
 use Rattle.law_tp4_proper.proofs.OctetEnds.{calling_in, connecting_in, ticking_in}
 use Rattle.law_tp4_proper.proofs.Octets.{all_both}
 use Rattle.law_tp4_proper.proofs.Writings.{some_writing}
-use Rattle.tp4_world.specs.Run.{Acts, Arrives, BeginsAt, Calls, CallsAt, CallsBy, CallsEnd, ConnectsBy, Delivers, HearsAll, HearsIf, Injects, IsRefused, NoneDue, NoneLeft, OneDue, OneMore, Restarts, RunsLine, SendsRaw, SendsTpdu, SendsTpdus, Settles, Starts, Ticks, TicksAll, TicksEntity, TooMany, has_ended, is_for, transport_address, transport_wish}
+use Rattle.tp4_world.specs.Run.{Acts, Arrives, BeginsAt, Calls, CallsAt, CallsBy, CallsEnd, ConnectsBy, Delivers, HearsAll, HearsIf, Injects, IsRefused, NoneDue, NoneLeft, OneDue, OneMore, Restarts, RunsLine, SendsRaw, SendsTpdu, SendsTpdus, Settles, Starts, Ticks, TicksAll, TicksEntity, TooMany, is_for, transport_address, transport_wish}
+use Rattle.tp4_world.specs.Ended.{has_ended}
 use Rattle.tp4_world.specs.Telling.{call_events, connect_event, drop_events, events_after, inject_event, told_connect, told_refusal}
 use Rattle.tp4_world.specs.Total.{CanConnect, CanRun, ComesInOctets}
 use Rattle.tp4_world.specs.World.{World, end_numbered, entity_at, with_entity}
@@ -467,28 +471,10 @@ module _ {C : Type 0} (tags : Tags) (is_address : List ℕ → Bool) (link : C �
       → AreOctets request.to_selector → AreOctets request.octets → n < 4294967296 → (count : ℕ) → count ≤ n → IsToldEvent tags (connect_event (count + 1) system reference own request)
   connect_told n system reference own request declared low from to one two three few count most =
       let own_is = tells.addresses own from in
-      let to_is = tells.addresses request.to to in (
-        refl,
-        (
-          omega (arith, few, most),
-          (
-            declared,
-            (
-              omega (arith, low),
-              (
-                (octets_bytes own own_is.0, own_is.1),
-                (
-                  octets_bytes request.from_selector one,
-                  (
-                    (octets_bytes request.to to_is.0, to_is.1),
-                    (octets_bytes request.to_selector two, (octets_bytes request.octets three, tt)),
-                  ),
-                ),
-              ),
-            ),
-          ),
-        ),
-      )
+      let to_is = tells.addresses request.to to in
+      let behind : AreTold tags (drop 5 (cells_of (connect_event (count + 1) system reference own request))) =
+      (octets_bytes request.from_selector one, ((octets_bytes request.to to_is.0, to_is.1), (octets_bytes request.to_selector two, (octets_bytes request.octets three, tt)))) in
+      (refl, (omega (arith, few, most), (declared, (omega (arith, low), ((octets_bytes own own_is.0, own_is.1), behind)))))
 
   begins_so : (n : ℕ) (old new : World C) (system : ℕ) (e : Entity) (request : ConnectRequest) (found : Option ℕ) (made : List Event) → least_free (now_of old) e ≡ found → WorldSo n old → entity_at old.entities system ≡ Some e
       → ((reference : ℕ) → IsProperCall (call_of e reference request)) → is_address request.to ≡ true → AreOctets request.from_selector → AreOctets request.to_selector → AreOctets request.octets

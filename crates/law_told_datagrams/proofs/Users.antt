@@ -24,7 +24,7 @@ use Rattle.script_journal.specs.declared.cause.UdCause.TheVariants as causes
 use Rattle.script_journal.specs.declared.event.Event.{Event}
 use Rattle.script_journal.specs.declared.event.Event.TheVariants as events
 use Rattle.script_journal.specs.Injective.{plain}
-use Rattle.script_journal.specs.Told.{ud_cause_text}
+use Rattle.script_journal.specs.CauseWords.{ud_cause_text}
 use Rattle.net_world.specs.Told.{picked_event, refusal, told}
 use Rattle.cltp.specs.declared.sending.Request.{Request}
 use Rattle.cltp.specs.declared.sending.ClAnswer.{ClAnswer}

@@ -7,7 +7,7 @@ use Rattle.tp4_flow.specs.declared.step.Sent.{Sent}
 use Rattle.tp4_number.specs.declared.piece.Piece.{Piece}
 use Rattle.tp4_number.specs.Number.{near}
 use Rattle.tp4_number.proofs.Past.{if_kept}
-use Rattle.tp4_sending.specs.FlowSender.{FlowSender, Sendings, then_sends, block_in, rule_allows, dts, dts_of, all_dts, eds, is_noted, one_urgent, sent_normal, has_next, normals, is_urgent, normals_where, new_sends, opened, submitted, urged, acknowledged, is_taken, acknowledged_to, is_outstanding, urgent_done, resends, resends_urgent_as, due_numbers, life_of, ticked_as, ticked}
+use Rattle.tp4_sending.specs.SendingHalf.{FlowSender, Sendings, then_sends, block_in, rule_allows, dts, dts_of, all_dts, eds, is_noted, one_urgent, sent_normal, has_next, normals, is_urgent, normals_where, new_sends, opened, submitted, urged, acknowledged, is_taken, acknowledged_to, is_outstanding, urgent_done, resends, resends_urgent_as, due_numbers, life_of, ticked_as, ticked}
 use Rattle.tp4_sending.specs.Pieces.{cut_at, end_of, is_due}
 use Rattle.tp4_sending.specs.declared.tries.Tries.{Tries}
 use Rattle.law_tp4_credit.specs.Giving.{AllGive}

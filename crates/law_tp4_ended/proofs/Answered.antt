@@ -28,7 +28,8 @@ use Rattle.tp4_entity.specs.declared.refusal.EntityRefusal.{EntityRefusal}
 use Rattle.tp4_entity.specs.declared.refusal.EntityRefusal.TheVariants as entities
 use Rattle.tp4_entity.specs.Entity.{Acted, Entity}
 use Rattle.tp4_entity.specs.Step.{user_refusal}
-use Rattle.tp4_world.specs.Run.{Acts, Calls, CallsAt, CallsBy, CallsEnd, IsRefused, RunsLine, SendsTpdus, clock_of, has_ended}
+use Rattle.tp4_world.specs.Run.{Acts, Calls, CallsAt, CallsBy, CallsEnd, IsRefused, RunsLine, SendsTpdus, clock_of}
+use Rattle.tp4_world.specs.Ended.{has_ended}
 use Rattle.tp4_world.specs.Telling.{call_events, drop_events, ends_with, event_for, events_after, told_call, told_refusal}
 use Rattle.tp4_world.specs.World.{World, end_numbered, entity_at, latest}
 use Rattle.tp4_world.specs.declared.place.EndAt.{EndAt}

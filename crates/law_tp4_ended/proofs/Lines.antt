@@ -11,7 +11,8 @@ use Rattle.script_lines.specs.declared.line.Line.TheVariants as lines
 use Rattle.tp4_conn.specs.End.{End, frozen_for}
 use Rattle.tp4_conn.specs.declared.call.UserCall.TheVariants as asks
 use Rattle.tp4_entity.specs.Entity.{Entity, end_at}
-use Rattle.tp4_entity.specs.References.{is_free_place, is_silent}
+use Rattle.tp4_entity.specs.References.{is_free_place}
+use Rattle.tp4_entity.specs.Silence.{is_silent}
 use Rattle.tp4_entity.specs.Step.{connect_refusal}
 use Rattle.tp4_entity.proofs.Standings.{free_at, is_free_at, within}
 use Rattle.tp4_world.specs.Called.{Did, WorldCall}

@@ -6,7 +6,8 @@ use Rattle.std.proofs.lemmas.Bool.{cases_eq, ne_eqb}
 use Rattle.std.proofs.lemmas.Option.{slice_get_within}
 use Rattle.tp4_conn.specs.End.{frozen_for}
 use Rattle.tp4_entity.specs.Entity.{Entity, end_at}
-use Rattle.tp4_entity.specs.References.{is_free_place, is_silent, is_within}
+use Rattle.tp4_entity.specs.References.{is_free_place}
+use Rattle.tp4_entity.specs.Silence.{is_silent, is_within}
 use Rattle.tp4_world.specs.World.{end_numbered, entity_at, is_at, latest, latest_from, with_entity}
 use Rattle.tp4_world.specs.declared.place.EndAt.{EndAt}
 use Rattle.tp4_world.specs.declared.place.Placed.{Placed}

@@ -5,7 +5,8 @@ use Rattle.osi_base.specs.Link.{Link}
 use Rattle.osi_base.specs.Calls.{Call}
 use Rattle.script_journal.specs.declared.event.Event.{Event}
 use Rattle.tp4_entity.specs.Entity.{Entity, end_at}
-use Rattle.tp4_entity.specs.References.{is_free, is_free_place, is_silent}
+use Rattle.tp4_entity.specs.References.{is_free, is_free_place}
+use Rattle.tp4_entity.specs.Silence.{is_silent}
 use Rattle.tp4_world.specs.World.{World, end_numbered}
 use Rattle.tp4_world.specs.declared.place.EndAt.{EndAt}
 use Rattle.law_tp4_ended.specs.Ended.{BeganAgain, EndedSince, IsBetween, WasFree}

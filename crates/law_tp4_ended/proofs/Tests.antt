@@ -13,7 +13,8 @@ use Rattle.tp4_entity.proofs.Standings.{free_at, is_free_at, within}
 use Rattle.tp4_world.specs.Called.{Did, DidAll}
 use Rattle.tp4_world.specs.Called as requests
 use Rattle.tp4_world.specs.First.{HasNoEnd}
-use Rattle.tp4_world.specs.Run.{RunsLine, RunsLines, clock_of, has_ended}
+use Rattle.tp4_world.specs.Run.{RunsLine, RunsLines, clock_of}
+use Rattle.tp4_world.specs.Ended.{has_ended}
 use Rattle.tp4_world.specs.World.{World, end_numbered, entity_at, latest}
 use Rattle.tp4_world.specs.declared.place.EndAt.{EndAt}
 use Rattle.tp4_world.specs.declared.place.Placed.{Placed}

@@ -25,12 +25,14 @@ use Rattle.tp4_conn.specs.End.{End, frozen_for}
 use Rattle.tp4_entity.specs.declared.refusal.ConnectRefusal.{ConnectRefusal}
 use Rattle.tp4_entity.specs.declared.refusal.EntityRefusal.{EntityRefusal}
 use Rattle.tp4_entity.specs.Entity.{Acted, Entity, end_at}
-use Rattle.tp4_entity.specs.References.{is_free_place, is_silent, is_within, least_free, was_frozen}
+use Rattle.tp4_entity.specs.References.{is_free_place, least_free, was_frozen}
+use Rattle.tp4_entity.specs.Silence.{is_silent, is_within}
 use Rattle.tp4_entity.specs.Step.{calling, connect_refusal, connecting, restarted, ticking, ticking_at, user_refusal}
 use Rattle.tp4_entity.specs.Entity.{at}
 use Rattle.tp4_entity.proofs.Beginning.{audible}
 use Rattle.tp4_entity.proofs.Restarts.{none_stands}
-use Rattle.tp4_world.specs.Run.{Acts, Arrives, BeginsAt, CallsAt, CallsBy, CallsEnd, ConnectsBy, Delivers, HearsAll, HearsIf, IsRefused, NoneDue, NoneLeft, OneDue, OneMore, Restarts, Settles, Ticks, TicksAll, TicksEntity, TooMany, clock_of, has_ended, is_for}
+use Rattle.tp4_world.specs.Run.{Acts, Arrives, BeginsAt, CallsAt, CallsBy, CallsEnd, ConnectsBy, Delivers, HearsAll, HearsIf, IsRefused, NoneDue, NoneLeft, OneDue, OneMore, Restarts, Settles, Ticks, TicksAll, TicksEntity, TooMany, clock_of, is_for}
+use Rattle.tp4_world.specs.Ended.{has_ended}
 use Rattle.tp4_world.specs.Telling.{ends_after, inject_event}
 use Rattle.tp4_world.specs.World.{World, entity_at, with_entity}
 use Rattle.tp4_world.specs.declared.place.EndAt.{EndAt}

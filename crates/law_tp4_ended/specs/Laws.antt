@@ -11,7 +11,8 @@ use Rattle.tp4_conn.specs.declared.call.UserCall.{UserCall}
 use Rattle.tp4_entity.specs.Entity.{Entity}
 use Rattle.tp4_world.specs.Called.{Did, DidAll, WorldCall}
 use Rattle.tp4_world.specs.Called as requests
-use Rattle.tp4_world.specs.Run.{RunsLine, RunsLines, clock_of, has_ended}
+use Rattle.tp4_world.specs.Run.{RunsLine, RunsLines, clock_of}
+use Rattle.tp4_world.specs.Ended.{has_ended}
 use Rattle.tp4_world.specs.World.{World, end_numbered, entity_at}
 use Rattle.tp4_world.specs.declared.place.EndAt.{EndAt}
 use Rattle.law_tp4_ended.specs.Ended.{EndedSince, HasNoEnds, end_called}

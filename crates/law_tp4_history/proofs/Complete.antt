@@ -30,7 +30,7 @@ module _ (size len : ℕ) (some : 0 < size) where
   within : (n : ℕ) → n < len / size + min 1 (len % size) → n * size < len
   within n h = elim (cases_lt (n * size) len) [ inl below ↦ below | inr above ↦ absurd (omega (arith, h, past_all n above)) ]
 
-  one_more : (n : ℕ) → n * size < len → n < len / size + min 1 (len % size)
+  pub one_more : (n : ℕ) → n * size < len → n < len / size + min 1 (len % size)
   one_more n h =
       let whole : len / size * size + len % size ≡ len = omega arith in
       let rest : len % size < size = omega arith in

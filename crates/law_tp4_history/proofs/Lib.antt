@@ -4,6 +4,7 @@ pub mod Meets
 pub mod Moves
 pub mod Begins
 pub mod Steps
+pub mod Offered
 pub mod Listed
 pub mod Agreed
 pub mod Complete

@@ -46,7 +46,7 @@ slid_same places k j piece h = elim (cases_lt j (length (drop k places))) [
     blanks (suc k) zero e = cc e
     blanks (suc k) (suc i) e = blanks k i e
 
-set_same : (places : List (Option Piece)) (d j : ℕ) (piece other : Piece) → get_or (set places d (Some piece)) j None ≡ Some other → ((j ≡ d) × (piece ≡ other)) ⊎ (get_or places j None ≡ Some other)
+pub set_same : (places : List (Option Piece)) (d j : ℕ) (piece other : Piece) → get_or (set places d (Some piece)) j None ≡ Some other → ((j ≡ d) × (piece ≡ other)) ⊎ (get_or places j None ≡ Some other)
 set_same [] d j piece other h = absurd (cc h)
 set_same (x ∷ places) zero zero piece other h = inl (refl, cc h)
 set_same (x ∷ places) zero (suc j) piece other h = inr h

@@ -3,7 +3,8 @@
 use Rattle.std.proofs.Common.{◌≡◌, ◌⊎◌, inl, inr, ℕ, zero, suc, ◌+◌, ◌-◌, ◌<◌, ◌==◌, true, false, if◌then◌else◌, List, [], ◌∷◌, ◌++◌, length, slice_get, Some, refl, sym, ◌∙◌, ap, subst, arith}
 use Rattle.std.proofs.lemmas.Option.{slice_get_within, get_or_from_slice_get}
 use Rattle.std.proofs.lemmas.Bool.{cases_lt, cases_order, cases_Bool, eqb-true, eqb-false}
-use Rattle.script_journal.specs.Lawful.{IsLatest, Partner, AreEnds, HasPartner, Makes}
+use Rattle.script_journal.specs.Lawful.{HasPartner, Makes}
+use Rattle.script_journal.specs.Partner.{IsLatest, Partner, AreEnds}
 use Rattle.script_journal.specs.declared.event.Event.{Event}
 use Rattle.script_journal.specs.declared.event.Event.TheVariants as events
 use Rattle.script_journal.specs.declared.event.Indication.{Indication}
@@ -61,7 +62,7 @@ hears_on titles k e new heard born known f = record {
   same = f.same;
 }
 
-get_left : (xs ys : List Event) (p : ℕ) → p < length xs → slice_get (xs ++ ys) p ≡ slice_get xs p
+pub get_left : (xs ys : List Event) (p : ℕ) → p < length xs → slice_get (xs ++ ys) p ≡ slice_get xs p
 get_left [] ys p low = absurd (omega (arith, low))
 get_left (x ∷ xs) ys zero low = refl
 get_left (x ∷ xs) ys (suc p) low = get_left xs ys p (omega (arith, low))

@@ -40,10 +40,10 @@ pub record Grows (size : ℕ) (l new : Line) : Type 0 where
   pub pieces : (n : ℕ) (piece : Piece) → cut_at size (normals l.submitted) n ≡ Some piece → cut_at size (normals new.submitted) n ≡ Some piece
   pub units : (n : ℕ) → n < length (expediteds l.submitted) → (n < length (expediteds new.submitted)) × (get_or (expediteds new.submitted) n [] ≡ get_or (expediteds l.submitted) n [])
 
-grows_none : (size : ℕ) (l : Line) → Grows size l l
+pub grows_none : (size : ℕ) (l : Line) → Grows size l l
 grows_none size l = record { sends = λ x c. c; answers = λ x c. c; eds = λ x c. c; eas = λ x c. c; pieces = λ n p e. e; units = λ n low. (low, refl) }
 
-grows_on : (size : ℕ) (a b c : Line) → Grows size a b → Grows size b c → Grows size a c
+pub grows_on : (size : ℕ) (a b c : Line) → Grows size a b → Grows size b c → Grows size a c
 grows_on size a b c f g = record {
   sends = λ x i. g.sends x (f.sends x i);
   answers = λ x i. g.answers x (f.answers x i);
@@ -187,17 +187,17 @@ pub record GrowsTrack (t new : Track) : Type 0 where
   pub size : t.is_begun ≡ true → new.size ≡ t.size
   pub line : t.is_begun ≡ true → Grows t.size t.line new.line
 
-grows_same : (t : Track) → GrowsTrack t t
+pub grows_same : (t : Track) → GrowsTrack t t
 grows_same t = record { begun = λ e. e; size = λ _. refl; line = λ _. grows_none t.size t.line }
 
 grows_new : (t new : Track) → t.is_begun ≡ false → GrowsTrack t new
 grows_new t new none_ = record { begun = λ e. absurd (cc (e, none_)); size = λ e. absurd (cc (e, none_)); line = λ e. absurd (cc (e, none_)) }
 
 -- the other fields stay
-with_line : (t new : Track) → new ≡ record t { line = new.line } → Grows t.size t.line new.line → GrowsTrack t new
+pub with_line : (t new : Track) → new ≡ record t { line = new.line } → Grows t.size t.line new.line → GrowsTrack t new
 with_line t new same g = record { begun = λ e. ap (λ (x : Track). x.is_begun) same ∙ e; size = λ _. ap (λ (x : Track). x.size) same; line = λ _. g }
 
-run_with : (times : Times) (clock : ℕ) (t new : Track) (more : List Happening) → new ≡ record t { line = new.line } → IsRun times clock t → Runs t.rules t.size t.line more new.line → (later : ℕ) → IsAt later new.line → IsRun times later new
+pub run_with : (times : Times) (clock : ℕ) (t new : Track) (more : List Happening) → new ≡ record t { line = new.line } → IsRun times clock t → Runs t.rules t.size t.line more new.line → (later : ℕ) → IsAt later new.line → IsRun times later new
 run_with times clock t new more same r runs later at = subst (IsRun times later) (sym same) (record {
   long = r.long;
   life = r.life;

@@ -166,6 +166,24 @@ module _ (times : Times) (w : Whole) (s : Sound times w.base) (t : Tracked times
     theirs = λ called agreed is. are.theirs ((kept_at z).0 ∙ called) agreed ((kept_at z).1 agreed is);
   }
 
+  -- the lines stay as they are
+  idle : Flowing → Says k event m made → (terms : Terms) (theirs : Track) → LinesStay terms event m (w.track k) theirs
+      → ((offers : List Offer) (z : ℕ) (terms : Terms) → IsPartner w.base k z → AreTerms (acted w.base k mv.new offers) k z terms → Stands terms m.base m.stage (w.track k) (w.track z))
+      → ((a : ℕ) (terms : Terms) → IsCaller w.base a k → (mv.new).agreed ≡ Some terms → (w.base.end k).agreed ≡ Some terms) → Did
+  idle flowing says terms theirs l own begun =
+      let offered = flowing.plain now k (w.base.end k).birth.address m.tpdus l.plain in
+      record {
+        doing = Nothing;
+        may = record {};
+        offers = offered.offers;
+        are = offered.are;
+        noted = λ o c. subst (Noted w.base w.track k now) (sym (offered.each o c)) (record {});
+        tells = says.none l.gave l.showed;
+        own = own offered.offers;
+        others = λ x y terms b stage other q timed_ are old. old (old_terms offered.offers x y terms are);
+        begun = λ a terms c agreed. inl (begun a terms c agreed);
+      }
+
   -- of a pair
   module _ (z : ℕ) (p : IsPartner w.base k z) where
     apart : k ≢ z
@@ -251,25 +269,15 @@ module _ (times : Times) (w : Whole) (s : Sound times w.base) (t : Tracked times
       plainly track body is = subst (Noted w.base track k now) (sym is) (record {})
 
       still : LinesStay (terms_in now_agreed) event m (w.track k) (w.track z) → Did
-      still l =
-          let offered = flowing.plain now k (w.base.end k).birth.address m.tpdus l.plain in
-          record {
-            doing = Nothing;
-            may = record {};
-            offers = offered.offers;
-            are = offered.are;
-            noted = λ o c. plainly w.track o.tpdu.body (offered.each o c);
-            tells = says.none l.gave l.showed;
-            own = λ y terms q are.
-                (let same : y ≡ z = one_partner times w.base s k y z q p in
-                subst (λ (j : ℕ). Stands terms m.base m.stage (w.track k) (w.track j)) (sym same)
-                (to_all (w.track k) (w.track z) l.stands (λ none begun. agreed_then begun none) offered.offers terms (subst (λ (j : ℕ). AreTerms (acted w.base k mv.new offered.offers) k j terms) same are)));
-            others = λ x y terms b stage other q timed_ are old. old (old_terms offered.offers x y terms are);
-            begun = λ a terms c agreed. elim (row_leaves whole now e event).agreed [
-              | inl leaves ↦ inl (sees.agreed ∙ ap (option_map terms_of) (sym leaves) ∙ sym mv.sees.agreed ∙ agreed)
-              | inr has ↦ inl (was_agreed a terms c agreed (begun_in m.base m.stage (terms_in now_agreed) (w.track k) (w.track z) has.0 l.stands))
-            ];
-          }
+      still l = idle flowing says (terms_in now_agreed) (w.track z) l
+          (λ offers y terms q are.
+          let same : y ≡ z = one_partner times w.base s k y z q p in
+          subst (λ (j : ℕ). Stands terms m.base m.stage (w.track k) (w.track j)) (sym same)
+          (to_all (w.track k) (w.track z) l.stands (λ none begun. agreed_then begun none) offers terms (subst (λ (j : ℕ). AreTerms (acted w.base k mv.new offers) k j terms) same are)))
+          (λ a terms c agreed. elim (row_leaves whole now e event).agreed [
+            | inl leaves ↦ sees.agreed ∙ ap (option_map terms_of) (sym leaves) ∙ sym mv.sees.agreed ∙ agreed
+            | inr has ↦ was_agreed a terms c agreed (begun_in m.base m.stage (terms_in now_agreed) (w.track k) (w.track z) has.0 l.stands)
+          ])
 
       begins : LinesBegin times (terms_in now_agreed) now e.stage event m → Did
       begins l =
@@ -433,19 +441,7 @@ module _ (times : Times) (w : Whole) (s : Sound times w.base) (t : Tracked times
     knows n other comes = tt
 
     alone : LinesStay no_terms event m (w.track k) (w.track k) → Did
-    alone l =
-        let offered = flowing.plain now k (w.base.end k).birth.address m.tpdus l.plain in
-        record {
-          doing = Nothing;
-          may = record {};
-          offers = offered.offers;
-          are = offered.are;
-          noted = λ o c. subst (Noted w.base w.track k now) (sym (offered.each o c)) (record {});
-          tells = says.none l.gave l.showed;
-          own = λ y terms q are. absurd (none y q);
-          others = λ x y terms b stage other q timed_ are old. old (old_terms offered.offers x y terms are);
-          begun = λ a terms c agreed. absurd (none a (inr c));
-        }
+    alone l = idle flowing says no_terms (w.track k) l (λ _ y _ q _. absurd (none y q)) (λ a _ c _. absurd (none a (inr c)))
 
     by_alone : Flowed times no_terms now taken e.stage event m (w.track k) (w.track k) → Did
     by_alone (Still l) = alone l

@@ -9,7 +9,7 @@ use Rattle.tp4_number.specs.declared.got.Got.{Got}
 use Rattle.tp4_number.specs.declared.got.Got.TheVariants.{TooLarge}
 use Rattle.tp4_number.specs.declared.piece.Piece.{Piece}
 use Rattle.tp4_number.proofs.Past.{if_kept}
-use Rattle.tp4_flow.specs.Half.{Half, dt_arrival, half_granted, is_next, taken_dt, taken_ed}
+use Rattle.tp4_flow.specs.ReceivingHalf.{Half, dt_arrival, half_granted, is_next, taken_dt, taken_ed}
 use Rattle.tp4_flow.specs.Told.{gots}
 use Rattle.tp4_flow.specs.declared.rules.Life.{Life}
 use Rattle.tp4_flow.specs.declared.rules.Life.TheVariants.{Goes, Exhausted}
@@ -17,7 +17,7 @@ use Rattle.tpdu.specs.declared.service.Options.{Options}
 use Rattle.tp4_flow.specs.declared.step.EndEvent.{EndEvent}
 use Rattle.tp4_flow.specs.declared.step.What.{What}
 use Rattle.tp4_flow.specs.declared.step.What.TheVariants as whats
-use Rattle.tp4_sending.specs.FlowSender.{FlowSender, Sendings, acknowledged, acknowledged_to, at, block_in, has_next, is_noted, is_outstanding, is_taken, is_urgent, life_of, new_sends, normals, normals_where, one_urgent, opened, resends, resends_urgent, resends_urgent_as, rule_allows, sent_normal, submitted, then_sends, ticked, ticked_as, urged, urgent_done}
+use Rattle.tp4_sending.specs.SendingHalf.{FlowSender, Sendings, acknowledged, acknowledged_to, at, block_in, has_next, is_noted, is_outstanding, is_taken, is_urgent, life_of, new_sends, normals, normals_where, one_urgent, opened, resends, resends_urgent, resends_urgent_as, rule_allows, sent_normal, submitted, then_sends, ticked, ticked_as, urged, urgent_done}
 use Rattle.tp4_sending.specs.Pieces.{end_of as end_in, is_due}
 use Rattle.tp4_sending.specs.declared.tries.Tries.{Tries}
 use Rattle.tp4_conn.specs.declared.end_record.EndRecord.{EndRecord}

@@ -19,7 +19,8 @@ use Rattle.tp4_conn.specs.declared.call.UserCall.{UserCall}
 use Rattle.tp4_conn.specs.declared.timers.Timers.{Timers}
 use Rattle.tp4_entity.specs.Association.{met}
 use Rattle.tp4_entity.specs.Entity.{Entity, at, Acted}
-use Rattle.tp4_entity.specs.References.{least_free, is_silent}
+use Rattle.tp4_entity.specs.References.{least_free}
+use Rattle.tp4_entity.specs.Silence.{is_silent}
 use Rattle.tp4_entity.specs.Step.{call_of, calling, connecting, first_due, ticking, user_refusal, restarted}
 use Rattle.script_journal.specs.declared.event.Event.{Event}
 use Rattle.script_journal.specs.declared.event.Event.TheVariants as events
@@ -31,7 +32,7 @@ use Rattle.law_tp4_moves.specs.Moves.{times_of}
 use Rattle.tp4_world.specs.World.{World, entity_at, end_numbered, with_entity}
 use Rattle.tp4_world.specs.declared.place.Placed.{Placed}
 use Rattle.tp4_world.specs.Telling.{call_events, connect_event, ends_after, events_after}
-use Rattle.tp4_world.specs.Run.{has_ended}
+use Rattle.tp4_world.specs.Ended.{has_ended}
 use Rattle.tp4_world.specs.declared.place.EndAt.{EndAt}
 use Rattle.law_tp4_lawful.proofs.Known.{IsOffered, Known, AreIdle, GoesOn, IsReadAs}
 

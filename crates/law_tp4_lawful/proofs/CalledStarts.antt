@@ -3,7 +3,8 @@ use Rattle.std.proofs.Common.{◌≡◌, ℕ, List, [], sym, ◌∙◌, ap, subs
 use Rattle.std.specs.List.{AllByRecursion}
 use Rattle.osi_base.specs.Link.{Link}
 use Rattle.osi_base.specs.Calls.{Call, Keeps}
-use Rattle.script_journal.specs.Lawful.{AllQueues, KeepsSilence}
+use Rattle.script_journal.specs.Lawful.{AllQueues}
+use Rattle.script_journal.specs.Silence.{KeepsSilence}
 use Rattle.script_journal.specs.declared.event.Event.{Event}
 use Rattle.tp4_conn.specs.End.{frozen_for}
 use Rattle.tp4_conn.specs.declared.timers.Timers.{Timers}

@@ -34,7 +34,7 @@ use Rattle.law_tp4_lawful.proofs.Known.{Known, AreBegan}
 use Rattle.law_tp4_lawful.proofs.Worlds.{AfterConnect, Follows}
 use Rattle.law_tp4_lawful.proofs.MakesEnds.{made_known}
 use Rattle.law_tp4_lawful.proofs.MakesFree.{Freed, freed, no_events}
-use Rattle.tp4_entity.specs.References.{is_silent, is_within}
+use Rattle.tp4_entity.specs.Silence.{is_silent, is_within}
 
 -- an entity that is not silent is not in a history either
 pub not_silent : (h : History) (entity : Entity) → AreBegan h.clock h.restarts entity → is_silent h.clock entity ≡ false → IsNotSilent (times_of entity.timers) h entity.own

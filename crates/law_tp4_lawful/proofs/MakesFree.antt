@@ -1,7 +1,9 @@
 -- A reference that is free at an entity is free in a history: a frozen end whose time is over is released there first. All other places stay as
 -- they are known.
-use Rattle.std.proofs.Common.{◌≡◌, ◌≢◌, ◌⊎◌, inl, inr, ℕ, ◌+◌, ◌<◌, Bool, true, false, List, [], length, slice_get, Option, Some, None, refl, sym, ap, subst, ◌∙◌, arith, append-nil}
-use Rattle.std.proofs.lemmas.Bool.{cases_eq}
+use Rattle.std.proofs.Common.{◌≡◌, ◌≢◌, ◌⊎◌, inl, inr, ℕ, ◌+◌, ◌<◌, ◌&&◌, Bool, true, false, List, [], ◌∷◌, length, slice_get, Option, Some, None, refl, sym, ap, subst, ◌∙◌, arith, append-nil}
+use Rattle.std.specs.Prelude.{nat_eq}
+use Rattle.std.specs.Cmp.Lexicographic.{pointwise}
+use Rattle.std.proofs.lemmas.Bool.{cases_eq, eq-eqb}
 use Rattle.script_journal.specs.declared.event.Event.{Event}
 use Rattle.tp4_conn.specs.declared.states.StateData.TheVariants.{Frozen as FrozenAt}
 use Rattle.tp4_conn.specs.declared.timers.Timers.{Timers}
@@ -9,7 +11,7 @@ use Rattle.tp4_conn.specs.End.{End, frozen_for}
 use Rattle.tp4_entity.specs.Entity.{Entity, end_at}
 use Rattle.tp4_entity.specs.Standing.{Empty, IsFreeAt, Over}
 use Rattle.law_tp4_history.specs.Ends.{frozen, Terms, Birth, End as Seen}
-use Rattle.law_tp4_history.specs.History.{IsCaller, IsFree, IsPartner, Release}
+use Rattle.law_tp4_history.specs.History.{History, IsCaller, IsFree, IsPartner, Release}
 use Rattle.law_tp4_history.specs.Journals.{IsAside, Written}
 use Rattle.law_tp4_history.specs.Tracks.{Whole, Nothing, Moment, onward}
 use Rattle.law_tp4_history.proofs.Sound.{at_end}
@@ -47,9 +49,33 @@ kept_known w new own r e is clock same low only stands = record {
 pub no_events : IsAside []
 no_events = record { units = λ end. (refl, refl); ends = λ k d low. absurd (omega (arith, low)) }
 
+pub same_address : (xs : List ℕ) → pointwise nat_eq xs xs ≡ true
+same_address [] = refl
+same_address (x ∷ xs) = ap (λ (b : Bool). b && pointwise nat_eq xs xs) (eq-eqb x x refl) ∙ same_address xs
+
 pub cases_out : (b : Bool) → (b ≡ true) ⊎ (b ≡ false)
 cases_out true = inl refl
 cases_out false = inr refl
+
+-- partners, and what they agreed on, in a history with as many ends, which are born as before
+module _ (h n : History) (born : (k : ℕ) → (n.end k).birth ≡ (h.end k).birth) where
+  pub caller_before : (a b : ℕ) → IsCaller (record n { count = h.count }) a b → IsCaller h a b
+  caller_before a b p = record {
+    a_low = p.a_low;
+    b_low = p.b_low;
+    called = sym (ap (λ (x : Birth). x.is_called) (born b)) ∙ p.called;
+    is = sym (ap (λ (x : Birth). x.caller) (born b)) ∙ p.is;
+  }
+
+  pub partner_before : (a b : ℕ) → IsPartner (record n { count = h.count }) a b → IsPartner h a b
+  partner_before a b (inl p) = inl (caller_before a b p)
+  partner_before a b (inr p) = inr (caller_before b a p)
+
+  pub terms_before : ((k : ℕ) → (n.end k).agreed ≡ (h.end k).agreed) → (a b : ℕ) (terms : Terms) → AreTerms n a b terms → AreTerms h a b terms
+  terms_before agreed_on a b terms t = record {
+    own = λ called agreed is. t.own (ap (λ (x : Birth). x.is_called) (born a) ∙ called) agreed (agreed_on a ∙ is);
+    theirs = λ called agreed is. t.theirs (ap (λ (x : Birth). x.is_called) (born b) ∙ called) agreed (agreed_on b ∙ is);
+  }
 
 -- what is known of a network, but for one reference of one system, where no end of the history stands
 pub record Freed (titles : List (List ℕ)) (timers : Timers) (w : Whole) (journal : List Event) (entities : List Placed) (ends : List EndAt) (system reference : ℕ) (own : List ℕ) : Type 0 where
@@ -115,24 +141,6 @@ module _ (titles : List (List ℕ)) (timers : Timers) (w : Whole) (journal : Lis
     agreed_on : (j : ℕ) → (after.base.end j).agreed ≡ (w.base.end j).agreed
     agreed_on j = at_end (λ (i : ℕ) (to : Seen). to.agreed ≡ (w.base.end i).agreed) w.base.end own.k (record (w.base.end own.k) { is_out = true }) j refl (λ _. refl)
 
-    caller_before : (a b : ℕ) → IsCaller after.base a b → IsCaller w.base a b
-    caller_before a b p = record {
-      a_low = p.a_low;
-      b_low = p.b_low;
-      called = sym (ap (λ (x : Birth). x.is_called) (born b)) ∙ p.called;
-      is = sym (ap (λ (x : Birth). x.caller) (born b)) ∙ p.is;
-    }
-
-    partner_before : (a b : ℕ) → IsPartner after.base a b → IsPartner w.base a b
-    partner_before a b (inl p) = inl (caller_before a b p)
-    partner_before a b (inr p) = inr (caller_before b a p)
-
-    terms_before : (a b : ℕ) (terms : Terms) → AreTerms after.base a b terms → AreTerms w.base a b terms
-    terms_before a b terms t = record {
-      own = λ called agreed is. t.own (ap (λ (x : Birth). x.is_called) (born a) ∙ called) agreed (agreed_on a ∙ is);
-      theirs = λ called agreed is. t.theirs (ap (λ (x : Birth). x.is_called) (born b) ∙ called) agreed (agreed_on b ∙ is);
-    }
-
     -- what is not out now was not before
     held_before : (j : ℕ) → (after.base.end j).is_out ≡ false → w.base.end j ≡ after.base.end j
     held_before j held = elim (cases_eq j own.k) [
@@ -159,7 +167,7 @@ module _ (titles : List (List ℕ)) (timers : Timers) (w : Whole) (journal : Lis
         (sym is.at.address ∙ ap (λ (i : ℕ). (w.base.end i).birth.address) same ∙ own.at.address)
         (sym is.at.reference_is ∙ ap (λ (i : ℕ). (w.base.end i).birth.reference) same ∙ own.at.reference_is) in
         kept_known w after address r end is refl (other_end is.k different) is.at.low (λ j low _ _ held. (low, held_before j held))
-        (λ z terms p t. is.stands z terms (partner_before is.k z p) (terms_before is.k z terms t))
+        (λ z terms p t. is.stands z terms (partner_before w.base after.base born is.k z p) (terms_before w.base after.base born agreed_on is.k z terms t))
 
     released : Freed titles timers w journal entities ends system reference entity.own
     released = record {
@@ -177,7 +185,7 @@ module _ (titles : List (List ℕ)) (timers : Timers) (w : Whole) (journal : Lis
             address = ap (λ (x : Birth). x.address) (born k) ∙ l.address;
             reference = ap (λ (x : Birth). x.reference) (born k) ∙ l.reference;
           });
-      begun = λ a b terms p is. (let was = known.begun a b terms (caller_before a b p) (sym (agreed_on b) ∙ is) in record { own = was.own; theirs = was.theirs });
+      begun = λ a b terms p is. (let was = known.begun a b terms (caller_before w.base after.base born a b p) (sym (agreed_on b) ∙ is) in record { own = was.own; theirs = was.theirs });
       there = λ one r other has apart.
           there_after other.own r (end_at other r) (λ same by. apart (known.apart one system other entity has at same) by) ((known.holds one other has).there r);
       free = no_more;

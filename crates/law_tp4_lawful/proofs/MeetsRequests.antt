@@ -20,7 +20,8 @@ use Rattle.tp4_conn.specs.Matching.{is_called_by}
 use Rattle.tp4_conn.proofs.Propers.{called_row}
 use Rattle.tp4_entity.specs.Association.{answers, is_called, is_frozen, is_registered, new_end, refusal, requested}
 use Rattle.tp4_entity.specs.Entity.{Entity, end_at, moved, there, with_end}
-use Rattle.tp4_entity.specs.References.{least_free, is_silent}
+use Rattle.tp4_entity.specs.References.{least_free}
+use Rattle.tp4_entity.specs.Silence.{is_silent}
 use Rattle.tp4_entity.proofs.PlaceLaws.{end_at_of}
 use Rattle.tp4_entity.proofs.Standings.{Free, free_at, free_least}
 use Rattle.law_tp4_history.specs.Ends.{Cr, Tpdu, Offer, Origin, Sent as SentBy, Answer, End as Seen}
@@ -43,13 +44,9 @@ use Rattle.law_tp4_lawful.proofs.Known.{IsOffered, IsReadAs, IsThere, Known}
 use Rattle.law_tp4_lawful.proofs.Worlds.{Follows}
 use Rattle.law_tp4_lawful.proofs.Makes.{freed_audible}
 use Rattle.law_tp4_lawful.proofs.MakesEnds.{made_known}
-use Rattle.law_tp4_lawful.proofs.MakesFree.{Freed, cases_out, freed, no_events}
+use Rattle.law_tp4_lawful.proofs.MakesFree.{Freed, cases_out, freed, no_events, same_address}
 use Rattle.law_tp4_lawful.proofs.MakesPlaces.{latest_last}
 use Rattle.law_tp4_lawful.proofs.MeetsAside.{noted, replied}
-
-same_address : (xs : List ℕ) → pointwise nat_eq xs xs ≡ true
-same_address [] = refl
-same_address (x ∷ xs) = ap (λ (b : Bool). b && pointwise nat_eq xs xs) (eq-eqb x x refl) ∙ same_address xs
 
 -- ---- a called end that stands is found among the ends of its entity
 

@@ -2,7 +2,8 @@
 use Rattle.std.proofs.Common.{◌≡◌, [], ◌∷◌, ◌++◌, ℕ, ◌+◌, ◌-◌, ◌<◌, ◌≤◌, true, List, length, take, Option, Some, refl, sym, ap, subst, ◌∙◌, arith, Contains}
 use Rattle.std.specs.List.{sum_by}
 use Rattle.osi_base.specs.Link.{Link}
-use Rattle.script_journal.specs.Lawful.{ArePartners, Marked, expediteds, normals, shown, submitted}
+use Rattle.script_journal.specs.Lawful.{Marked, expediteds, normals, shown, submitted}
+use Rattle.script_journal.specs.Partner.{ArePartners}
 use Rattle.script_journal.specs.declared.event.Event.{Event}
 use Rattle.tpdu.specs.declared.tpdu.Format.{Format}
 use Rattle.tpdu.specs.declared.tpdu.Tpdu.{Tpdu as WireTpdu}
@@ -14,7 +15,7 @@ use Rattle.tp4_number.specs.Number.{wire}
 use Rattle.tp4_number.specs.Sender.{Sender}
 use Rattle.tp4_number.specs.Traffic.{Answer, IsFit, Rules}
 use Rattle.tp4_sending.specs.declared.tries.Tries.{Tries}
-use Rattle.tp4_sending.specs.FlowSender.{UrgentSender}
+use Rattle.tp4_sending.specs.SendingHalf.{UrgentSender}
 use Rattle.tp4_sending.specs.Pieces.{count_in}
 use Rattle.tp4_sending.specs.Kept.{urgent_base}
 use Rattle.tp4_conn.specs.declared.halves.Halves.{Halves}

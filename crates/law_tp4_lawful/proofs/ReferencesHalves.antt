@@ -11,7 +11,7 @@ use Rattle.tp4_conn.specs.declared.states.StateData.TheVariants as stages
 use Rattle.tp4_conn.specs.declared.timers.Timers.{Timers}
 use Rattle.tp4_conn.specs.End.{End, agreed_format}
 use Rattle.tp4_entity.specs.Entity.{Entity}
-use Rattle.law_tp4_history.specs.Ends.{Birth, Terms}
+use Rattle.law_tp4_history.specs.Ends.{Birth, Terms, Times}
 use Rattle.law_tp4_history.specs.History.{IsPartner}
 use Rattle.law_tp4_history.specs.Tracks.{Track, Whole}
 use Rattle.law_tp4_history.proofs.Written.{Kept}
@@ -41,10 +41,7 @@ pub record AreThere (w : Whole) (k : ℕ) (b : EndRecord) (h : Halves) : Type 0 
   pub own : AreOwn b h
   pub halves : AreHalvesAt (agreed_format b.agreed) h (w.track k) (w.track z)
 
-module _ {C : Type 0} (link : C → Link (List ℕ)) (titles : List (List ℕ)) (timers : Timers) (w : Whole) (journal : List Event) (world : World C) (explains : Explains link titles timers w journal world) where
-  kept : Kept (times_of timers) titles w journal
-  kept = keeps titles timers w journal world.entities world.ends explains.known
-
+module _ (times : Times) (titles : List (List ℕ)) (w : Whole) (journal : List Event) (kept : Kept times titles w journal) where
   agreed_terms : (k z : ℕ) (terms : Terms) → IsPartner w.base k z → (w.base.end k).agreed ≡ Some terms → AreTerms w.base k z terms
   agreed_terms k z terms (inl p) is = record {
     own = λ called. absurd (cc (called, (kept.sound.pairs k z p).calls));
@@ -55,8 +52,9 @@ module _ {C : Type 0} (link : C → Link (List ℕ)) (titles : List (List ℕ)) 
     theirs = λ called. absurd (cc (called, (kept.sound.pairs z k p).calls));
   }
 
-  pub are_there : (own : List ℕ) (reference : ℕ) (e : End) (known : IsKnown w own reference e) (h : Halves) → halves_at e.stage ≡ Some h → AreThere w known.k e.base h
-  are_there own reference e known h is =
+  -- in any history that has the journal
+  pub there_in : (own : List ℕ) (reference : ℕ) (e : End) (known : IsKnown w own reference e) (h : Halves) → halves_at e.stage ≡ Some h → AreThere w known.k e.base h
+  there_in own reference e known h is =
       let o = own_in (w.base.end known.k).birth (w.base.end known.k).took (w.base.end known.k).latest e.base e.stage h is known.sees.state in
       let p = (kept.sound.own known.k known.at.low).known (λ none. o.1 (sym known.sees.known ∙ none)) in
       let agreed : (w.base.end known.k).agreed ≡ Some (terms_of o.0.terms) = known.sees.agreed ∙ ap (option_map terms_of) o.0.agreed in
@@ -67,6 +65,10 @@ module _ {C : Type 0} (link : C → Link (List ℕ)) (titles : List (List ℕ)) 
         halves = stand_in (terms_of o.0.terms) e.base e.stage h (w.track known.k) (w.track p.0) is
             (known.stands p.0 (terms_of o.0.terms) p.1 (agreed_terms known.k p.0 (terms_of o.0.terms) p.1 agreed));
       }
+
+module _ {C : Type 0} (link : C → Link (List ℕ)) (titles : List (List ℕ)) (timers : Timers) (w : Whole) (journal : List Event) (world : World C) (explains : Explains link titles timers w journal world) where
+  pub are_there : (own : List ℕ) (reference : ℕ) (e : End) (known : IsKnown w own reference e) (h : Halves) → halves_at e.stage ≡ Some h → AreThere w known.k e.base h
+  are_there own reference e known h is = there_in (times_of timers) titles w journal (keeps titles timers w journal world.entities world.ends explains.known) own reference e known h is
 
   pub known_at : (y system : ℕ) (entity : Entity) (reference : ℕ) (e : End) → IsEnd world y system entity reference e → (known : IsKnown w entity.own reference e) × (known.k + 1 ≡ y)
   known_at y system entity reference e is =

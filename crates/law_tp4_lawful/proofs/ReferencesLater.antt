@@ -6,7 +6,8 @@ use Rattle.std.proofs.lemmas.Bool.{cases_Bool, cases_lt}
 use Rattle.std.proofs.lemmas.Option.{none-some, slice_get_within}
 use Rattle.osi_base.specs.Link.{Link}
 use Rattle.osi_base.specs.Calls.{Call, Keeps}
-use Rattle.script_journal.specs.Lawful.{AreEnds, ArePartners, IsLatest, Makes}
+use Rattle.script_journal.specs.Lawful.{Makes}
+use Rattle.script_journal.specs.Partner.{AreEnds, ArePartners, IsLatest}
 use Rattle.script_journal.specs.RawLawful.{clock_after, clock_from, tick_after}
 use Rattle.script_journal.specs.declared.event.Event.{Event}
 use Rattle.script_journal.specs.declared.event.Event.TheVariants as events
@@ -23,7 +24,7 @@ use Rattle.law_tp4_history.specs.History.{IsPartner}
 use Rattle.law_tp4_history.specs.Journals.{Written}
 use Rattle.law_tp4_history.specs.Tracks.{IsNothing, Whole}
 use Rattle.law_tp4_history.proofs.Meets.{aimed_bound, answer_bound}
-use Rattle.law_tp4_history.proofs.Places.{asking, incoming}
+use Rattle.law_tp4_history.proofs.Places.{asking, incoming, get_left}
 use Rattle.law_tp4_history.proofs.Sound.{Until, one_partner, partner_low}
 use Rattle.law_tp4_history.proofs.Written.{Kept}
 use Rattle.law_tp4_moves.specs.Moves.{times_of}
@@ -49,11 +50,6 @@ use Rattle.law_tp4_lawful.proofs.WorldOutcomes.{one_unit, outcomes}
 use Rattle.law_tp4_lawful.proofs.WorldKnown.{plain_kept}
 
 -- ---- lists
-
-get_left : (xs ys : List Event) (p : ℕ) → p < length xs → slice_get (xs ++ ys) p ≡ slice_get xs p
-get_left [] ys p low = absurd (omega (arith, low))
-get_left (x ∷ xs) ys zero low = refl
-get_left (x ∷ xs) ys (suc p) low = get_left xs ys p (omega (arith, low))
 
 get_at : (xs ys : List Event) (event : Event) → slice_get (xs ++ event ∷ ys) (length xs) ≡ Some event
 get_at [] ys event = refl

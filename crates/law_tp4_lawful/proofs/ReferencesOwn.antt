@@ -3,7 +3,8 @@ use Rattle.std.proofs.Common.{◌≡◌, ◌⊎◌, inl, inr, ℕ, ◌+◌, ◌-
 use Rattle.std.specs.Prelude.{get_or, slice_get}
 use Rattle.std.proofs.lemmas.Option.{slice_get-get_or}
 use Rattle.osi_base.specs.Link.{Link}
-use Rattle.script_journal.specs.Lawful.{ArePartners, Marked, expediteds, normals, submitted}
+use Rattle.script_journal.specs.Lawful.{Marked, expediteds, normals, submitted}
+use Rattle.script_journal.specs.Partner.{ArePartners}
 use Rattle.script_journal.specs.declared.event.Event.{Event}
 use Rattle.tpdu.specs.declared.tpdu.Tpdu.{Tpdu as WireTpdu}
 use Rattle.tpdu.specs.declared.tpdu.Tpdu.TheVariants as wires

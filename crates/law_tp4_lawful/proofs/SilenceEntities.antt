@@ -21,7 +21,8 @@ use Rattle.tp4_conn.specs.Table.{Called, Ticked, Took, due, stepped}
 use Rattle.tp4_conn.proofs.Timely.{if_kept}
 use Rattle.tp4_entity.specs.Association.{is_called, is_registered, met, met_at, met_by, new_end, requested, unmatched}
 use Rattle.tp4_entity.specs.Entity.{Acted, Entity, at, end_at, moved, there, with_end}
-use Rattle.tp4_entity.specs.References.{is_silent, is_within, least_free}
+use Rattle.tp4_entity.specs.References.{least_free}
+use Rattle.tp4_entity.specs.Silence.{is_silent, is_within}
 use Rattle.tp4_entity.specs.Step.{call_of, calling, calling_end, connecting, first_due, kept_end, ticking, ticking_at, ticking_end}
 use Rattle.tp4_entity.specs.Unit.{EndsWith, Faulty, HearsUnit, TakesBy, TakesUnit, Whole, all_met, ignored}
 use Rattle.tp4_entity.proofs.PlaceLaws.{end_at_of}

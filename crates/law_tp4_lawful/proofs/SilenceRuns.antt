@@ -17,7 +17,7 @@ use Rattle.osi_base.specs.declared.unit.Up.TheVariants.{Unit as Came, Note as No
 use Rattle.osi_base.specs.declared.unit.Wish.{Wish}
 use Rattle.osi_base.specs.Link.{Link}
 use Rattle.osi_base.specs.Calls.{Call, Keeps, Choose, Inject, Tick}
-use Rattle.script_journal.specs.Lawful.{KeepsSilence}
+use Rattle.script_journal.specs.Silence.{KeepsSilence}
 use Rattle.script_journal.specs.RawLawful.{raw_address}
 use Rattle.script_journal.specs.declared.cause.Refused.{Refused}
 use Rattle.script_journal.specs.declared.cause.Refused.TheVariants as refusals
@@ -37,7 +37,8 @@ use Rattle.tp4_conn.specs.End.{End, frozen_for}
 use Rattle.tp4_entity.specs.declared.refusal.ConnectRefusal.{ConnectRefusal}
 use Rattle.tp4_entity.specs.declared.refusal.EntityRefusal.{EntityRefusal}
 use Rattle.tp4_entity.specs.Entity.{Acted, Entity, at, end_at}
-use Rattle.tp4_entity.specs.References.{is_free, is_silent, least_free}
+use Rattle.tp4_entity.specs.References.{is_free, least_free}
+use Rattle.tp4_entity.specs.Silence.{is_silent}
 use Rattle.tp4_entity.specs.Step.{calling, connect_refusal, connecting, end_refusal, restarted, ticking, ticking_at, user_refusal}
 use Rattle.tp4_entity.proofs.Beginning.{audible}
 use Rattle.tp4_entity.proofs.Restarts.{none_stands}
@@ -45,7 +46,8 @@ use Rattle.tp4_entity.proofs.Standings.{free_least}
 use Rattle.tp4_world.specs.Called.{Did as DoesCall, DidAll, WorldCall}
 use Rattle.tp4_world.specs.Called as requests
 use Rattle.tp4_world.specs.First.{IsFirst, IsNew}
-use Rattle.tp4_world.specs.Run.{Acts, Arrives, BeginsAt, CallsAt, CallsBy, CallsEnd, ConnectsBy, Delivers, HearsAll, HearsIf, IsRefused, NoneDue, NoneLeft, OneDue, OneMore, Restarts, SendsTpdus, Settles, Starts, Ticks, TicksAll, TicksEntity, TooMany, clock_of, has_ended, is_for}
+use Rattle.tp4_world.specs.Run.{Acts, Arrives, BeginsAt, CallsAt, CallsBy, CallsEnd, ConnectsBy, Delivers, HearsAll, HearsIf, IsRefused, NoneDue, NoneLeft, OneDue, OneMore, Restarts, SendsTpdus, Settles, Starts, Ticks, TicksAll, TicksEntity, TooMany, clock_of, is_for}
+use Rattle.tp4_world.specs.Ended.{has_ended}
 use Rattle.tp4_world.specs.Telling.{call_events, drop_events, ends_after, events_after, inject_event}
 use Rattle.tp4_world.specs.World.{World, end_numbered, entity_at, latest, with_entity}
 use Rattle.tp4_world.specs.declared.place.EndAt.{EndAt}

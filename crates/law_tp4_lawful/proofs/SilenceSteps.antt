@@ -2,7 +2,7 @@
 -- an end that stands is told of none that was lost, and an end is made only when the silence is over.
 use Rattle.std.proofs.Common.{◌≡◌, ◌⊎◌, inl, inr, ℕ, zero, suc, ◌+◌, ◌<◌, ◌≤◌, Bool, true, false, if◌then◌else◌, List, [], ◌∷◌, ◌++◌, length, slice_get, Option, Some, None, refl, sym, ◌∙◌, ap, subst, arith, append-nil, append_assoc}
 use Rattle.std.proofs.lemmas.Bool.{cases_eq}
-use Rattle.script_journal.specs.Lawful.{IsOf as IsOfEnd, KeepsSilence, MakesAt}
+use Rattle.script_journal.specs.Silence.{IsOf as IsOfEnd, KeepsSilence, MakesAt}
 use Rattle.script_journal.specs.RawLawful.{clock_after as clock_then, clock_from as clock_of, tick_after as tick_at}
 use Rattle.script_journal.specs.declared.event.Event.{Event}
 use Rattle.script_journal.specs.declared.event.Event.TheVariants as events

@@ -21,7 +21,7 @@ use Rattle.tpdu.specs.declared.fault.TpduCause.{TpduCause}
 use Rattle.tp4_number.specs.Number.{whole}
 use Rattle.tp4_flow.specs.declared.step.EndEvent.{EndEvent}
 use Rattle.tp4_flow.specs.declared.step.Sent.{Sent}
-use Rattle.tp4_flow.specs.declared.step.What.TheVariants.{BadTpdu}
+use Rattle.tp4_flow.specs.declared.step.What.TheVariants.{BadTpdu, Silent}
 use Rattle.tp4_conn.specs.End.{IsTimed}
 use Rattle.tp4_conn.specs.declared.timers.Timers.{Timers}
 use Rattle.tp4_entity.specs.Association.{met}
@@ -29,6 +29,7 @@ use Rattle.tp4_entity.specs.Entity.{Acted, Entity, at}
 use Rattle.tp4_entity.specs.Step.{first_due}
 use Rattle.tp4_entity.specs.Unit.{HearsUnit, all_met, extended_of, ignored, TakesBy, TakesUnit}
 use Rattle.law_tp4_history.specs.History.{Note}
+use Rattle.law_tp4_history.specs.Journals.{IsAside}
 use Rattle.law_tp4_history.specs.Tracks.{Nothing, Whole, onward}
 use Rattle.law_tp4_moves.specs.Moves.{times_of}
 use Rattle.tp4_world.specs.Run.{Acts, Delivers, HearsAll, HearsIf, Injects, is_for}
@@ -45,7 +46,7 @@ use Rattle.law_tp4_lawful.proofs.WorldFloats.{all_explained_on, choice_goes, inj
 use Rattle.law_tp4_lawful.proofs.WorldKnown.{rest_with}
 use Rattle.law_tp4_lawful.proofs.WorldPlaces.{with_again}
 use Rattle.tp4_world.proofs.Having.{with_first}
-use Rattle.tp4_entity.specs.References.{is_silent}
+use Rattle.tp4_entity.specs.Silence.{is_silent}
 
 pub acted_same : (a b : Acted) → a.entity ≡ b.entity → a.events ≡ b.events → a.tpdus ≡ b.tpdus → a ≡ b
 acted_same a b entity told tpdus =
@@ -90,24 +91,32 @@ module _ (titles : List (List ℕ)) (timers : Timers) (Knows : Knowing) (Offered
     offered = f.offered;
   }
 
-  -- a fault alone
-  fault_heard : (w : Whole) (journal : List Event) (entities : List Placed) (ends : List EndAt) (system : ℕ) (entity : Entity) (from : List ℕ) (cause : TpduCause) (place : ℕ)
+  -- one event that is told of no end
+  event_heard : (w : Whole) (journal : List Event) (entities : List Placed) (ends : List EndAt) (system : ℕ) (entity : Entity) (event : Event) (happened : List EndEvent) → IsAside (event ∷ [])
+      → event ∷ [] ≡ events_after ends system entity.own happened → ends ≡ ends_after ends system happened
       → Knows w journal entities ends → AreAtRest Sound w.base.clock entities → entity_at entities system ≡ Some entity
-      → Hear w journal entities ends system entity.own (outcome w.base.clock entity from [] (record { reference = 0; what = BadTpdu cause place } ∷ []))
-  fault_heard w journal entities ends system entity from cause place known rest is =
-      let event : Event = events.BadTpdu system cause place in
-      let here : Knows w (journal ++ []) (with_entity entities system (at w.base.clock entity)) ends =
-      subst (λ (xs : List Event). Knows w xs (with_entity entities system (at w.base.clock entity)) ends) (sym (append-nil journal)) (kept.clock w journal entities ends known system entity is) in
+      → Hear w journal entities ends system entity.own (record { entity = at w.base.clock entity; events = happened; tpdus = [] })
+  event_heard w journal entities ends system entity event happened quiet made same known rest is =
+      let next : Whole = onward (times_of timers) w (record { step = Note; doing = Nothing }) in
+      let held : List Placed = with_entity entities system (at w.base.clock entity) in
+      let here : Knows w (journal ++ []) held ends = subst (λ (xs : List Event). Knows w xs held ends) (sym (append-nil journal)) (kept.clock w journal entities ends known system entity is) in
       record {
         follows = record {
-          new = onward (times_of timers) w (record { step = Note; doing = Nothing });
+          new = next;
           goes_on = record { clock = refl; offers = λ offer there. there };
-          known = aside w (journal ++ []) (event ∷ []) (with_entity entities system (at w.base.clock entity)) ends here
-              (are_aside (event ∷ []) (record { submits = λ end. refl; shows = λ end. refl; makes = refl }, tt));
+          known = subst (λ (xs : List Event). Knows next (journal ++ [] ++ xs) held (ends_after ends system happened)) made
+              (subst (λ (es : List EndAt). Knows next (journal ++ [] ++ event ∷ []) held es) same (aside w (journal ++ []) (event ∷ []) held ends here quiet));
           offered = tt;
         };
         rest = (outcomes.clock w.base.clock entity (rest system entity is).0, (rest system entity is).1);
       }
+
+  -- a fault alone
+  fault_heard : (w : Whole) (journal : List Event) (entities : List Placed) (ends : List EndAt) (system : ℕ) (entity : Entity) (from : List ℕ) (cause : TpduCause) (place : ℕ)
+      → Knows w journal entities ends → AreAtRest Sound w.base.clock entities → entity_at entities system ≡ Some entity
+      → Hear w journal entities ends system entity.own (outcome w.base.clock entity from [] (record { reference = 0; what = BadTpdu cause place } ∷ []))
+  fault_heard w journal entities ends system entity from cause place = event_heard w journal entities ends system entity (events.BadTpdu system cause place) (record { reference = 0; what = BadTpdu cause place } ∷ [])
+      (are_aside (events.BadTpdu system cause place ∷ []) (record { submits = λ end. refl; shows = λ end. refl; makes = refl }, tt)) refl refl
 
   -- one TPDU
   tpdu_heard : (w : Whole) (journal : List Event) (entities : List Placed) (ends : List EndAt) (system : ℕ) (entity : Entity) (unit : CarriedUnit (List ℕ)) (tpdu : TpduAndSum)
@@ -152,20 +161,8 @@ module _ (titles : List (List ℕ)) (timers : Timers) (Knows : Knowing) (Offered
   ignored_heard : (w : Whole) (journal : List Event) (entities : List Placed) (ends : List EndAt) (system : ℕ) (entity : Entity)
       → Knows w journal entities ends → AreAtRest Sound w.base.clock entities → entity_at entities system ≡ Some entity
       → Hear w journal entities ends system entity.own (ignored w.base.clock entity)
-  ignored_heard w journal entities ends system entity known rest is =
-      let event : Event = events.Silent system in
-      let here : Knows w (journal ++ []) (with_entity entities system (at w.base.clock entity)) ends =
-      subst (λ (xs : List Event). Knows w xs (with_entity entities system (at w.base.clock entity)) ends) (sym (append-nil journal)) (kept.clock w journal entities ends known system entity is) in
-      record {
-        follows = record {
-          new = onward (times_of timers) w (record { step = Note; doing = Nothing });
-          goes_on = record { clock = refl; offers = λ offer there. there };
-          known = aside w (journal ++ []) (event ∷ []) (with_entity entities system (at w.base.clock entity)) ends here
-              (are_aside (event ∷ []) (record { submits = λ end. refl; shows = λ end. refl; makes = refl }, tt));
-          offered = tt;
-        };
-        rest = (outcomes.clock w.base.clock entity (rest system entity is).0, (rest system entity is).1);
-      }
+  ignored_heard w journal entities ends system entity = event_heard w journal entities ends system entity (events.Silent system) (record { reference = 0; what = Silent } ∷ [])
+      (are_aside (events.Silent system ∷ []) (record { submits = λ end. refl; shows = λ end. refl; makes = refl }, tt)) refl refl
 
   unit_taken : (w : Whole) (journal : List Event) (entities : List Placed) (ends : List EndAt) (system : ℕ) (entity : Entity) (unit : CarriedUnit (List ℕ)) (acted : Acted)
       → HasCome Offered timers.life w.base unit → unit.to ≡ entity.own → Knows w journal entities ends → AreAtRest Sound w.base.clock entities → entity_at entities system ≡ Some entity

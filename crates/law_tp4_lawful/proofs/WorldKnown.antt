@@ -1,5 +1,6 @@
 -- A history explains an entity whose clock moves on as it did before; so it is what is kept along the calls.
 use Rattle.std.proofs.Common.{◌≡◌, ℕ, ◌==◌, Bool, true, false, List, Some, None, refl, sym, ◌∙◌, ap, subst, inl, inr, arith}
+use Rattle.std.proofs.lemmas.Bool.{eqb-true}
 use Rattle.nsap.specs.Address.{is_same_system}
 use Rattle.script_journal.specs.declared.event.Event.{Event}
 use Rattle.tp4_conn.specs.declared.timers.Timers.{Timers}
@@ -14,9 +15,6 @@ use Rattle.law_tp4_lawful.proofs.Along.{AreAtRest, Grows, IsKept}
 use Rattle.law_tp4_lawful.proofs.WorldPlaces.{some_same}
 use Rattle.tp4_world.proofs.Having.{with_any, with_first, with_other}
 use Rattle.law_tp4_lawful.proofs.Restarts.{same_began}
-
-equal : (n m : ℕ) → (n == m) ≡ true → n ≡ m
-equal n m is = grind arith
 
 -- all are at rest, where they were and that entity is
 pub rest_with : (Sound : Entity → Type 0) (now : ℕ) (entities : List Placed) (system : ℕ) (new : Entity) → AreAtRest Sound now entities → Sound new × (first_due now new ≡ None)
@@ -42,7 +40,7 @@ module _ (titles : List (List ℕ)) (timers : Timers) (w : Whole) (journal : Lis
       where
         by_system : (here : Bool) → (end.system == system) ≡ here → IsListed w.base (with_entity entities system new) k end
         by_system true here =
-            let at : end.system ≡ system = equal end.system system here in
+            let at : end.system ≡ system = eqb-true end.system system here in
             let one : l.entity ≡ old = some_same l.entity old (sym l.entity_is ∙ ap (entity_at entities) at ∙ is) in
             record {
               entity = new;

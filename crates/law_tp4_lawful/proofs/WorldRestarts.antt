@@ -1,8 +1,8 @@
 -- An entity begins again: in the history its ends are lost, and no other. What the others know of their partners stays.
-use Rattle.std.proofs.Common.{◌≡◌, ◌≢◌, ◌⊎◌, inl, inr, ℕ, ◌&&◌, Bool, true, false, List, [], ◌∷◌, ◌++◌, Option, Some, None, refl, sym, ap, subst, ◌∙◌, arith}
+use Rattle.std.proofs.Common.{◌≡◌, ◌≢◌, ◌⊎◌, inl, inr, ℕ, true, false, List, [], ◌∷◌, ◌++◌, Option, Some, None, refl, sym, ap, subst, ◌∙◌, arith}
 use Rattle.std.specs.Prelude.{nat_eq}
 use Rattle.std.specs.Cmp.Lexicographic.{pointwise, same_text}
-use Rattle.std.proofs.lemmas.Bool.{cases_eq, eq-eqb}
+use Rattle.std.proofs.lemmas.Bool.{cases_eq}
 use Rattle.osi_base.specs.Link.{Link}
 use Rattle.osi_base.specs.Calls.{Call, Keeps}
 use Rattle.script_journal.specs.declared.event.Event.{Event}
@@ -13,8 +13,8 @@ use Rattle.tp4_conn.proofs.Timely.{if_kept}
 use Rattle.tp4_entity.specs.Entity.{Entity, end_at}
 use Rattle.tp4_entity.specs.Step.{first_due, restarted}
 use Rattle.tp4_entity.proofs.Restarts.{none_stands}
-use Rattle.law_tp4_history.specs.Ends.{Terms, Birth, End as Seen}
-use Rattle.law_tp4_history.specs.History.{IsCaller, IsFree, IsPartner, Restart}
+use Rattle.law_tp4_history.specs.Ends.{Birth, End as Seen}
+use Rattle.law_tp4_history.specs.History.{IsFree, Restart}
 use Rattle.law_tp4_history.specs.Journals.{Written}
 use Rattle.law_tp4_history.specs.Tracks.{Whole, Nothing, Moment, onward}
 use Rattle.law_tp4_history.proofs.Written.{written_more}
@@ -24,22 +24,18 @@ use Rattle.tp4_world.specs.World.{World, entity_at, with_entity}
 use Rattle.tp4_world.specs.declared.place.EndAt.{EndAt}
 use Rattle.tp4_world.specs.declared.place.Placed.{Placed}
 use Rattle.nsap.specs.Address.{is_same_system}
-use Rattle.law_tp4_lawful.proofs.Known.{AreBegan, AreTerms, Holds, IsListed, IsThere, Known}
+use Rattle.law_tp4_lawful.proofs.Known.{AreBegan, Holds, IsListed, IsThere, Known}
 use Rattle.law_tp4_lawful.proofs.Along as along
 use Rattle.law_tp4_lawful.proofs.Along.{AreAtRest, IsKept, Knowing, Offering}
 use Rattle.law_tp4_lawful.proofs.Worlds.{AfterRestart}
 use Rattle.law_tp4_lawful.proofs.Frames.{entity_other, entity_set}
-use Rattle.law_tp4_lawful.proofs.MakesFree.{kept_known}
+use Rattle.law_tp4_lawful.proofs.MakesFree.{caller_before, kept_known, partner_before, terms_before, same_address}
 use Rattle.law_tp4_lawful.proofs.Restarts.{again_began, other_began}
 use Rattle.law_tp4_lawful.proofs.WorldActs.{Went}
 use Rattle.law_tp4_lawful.proofs.WorldAsides.{are_aside}
 use Rattle.law_tp4_lawful.proofs.WorldFloats.{carries_on}
 use Rattle.law_tp4_lawful.proofs.WorldKnown.{rest_with}
 use Rattle.law_tp4_lawful.proofs.WorldPlaces.{none_some, some_same}
-
-same_address : (xs : List ℕ) → pointwise nat_eq xs xs ≡ true
-same_address [] = refl
-same_address (x ∷ xs) = ap (λ (b : Bool). b && pointwise nat_eq xs xs) (eq-eqb x x refl) ∙ same_address xs
 
 module _ (titles : List (List ℕ)) (timers : Timers) (w : Whole) (journal : List Event) (entities : List Placed) (ends : List EndAt) (known : Known titles timers w journal entities ends)
     (system : ℕ) (entity : Entity) (at : entity_at entities system ≡ Some entity) where
@@ -89,24 +85,6 @@ module _ (titles : List (List ℕ)) (timers : Timers) (w : Whole) (journal : Lis
   out_before : (k : ℕ) → (w.base.end k).is_out ≡ true → (after.base.end k).is_out ≡ true
   out_before k out = if_kept (λ (to : Seen). to.is_out ≡ true) (pointwise nat_eq (w.base.end k).birth.address entity.own) _ _ (λ _. refl) (λ _. out)
 
-  caller_before : (a b : ℕ) → IsCaller after.base a b → IsCaller w.base a b
-  caller_before a b p = record {
-    a_low = p.a_low;
-    b_low = p.b_low;
-    called = sym (ap (λ (x : Birth). x.is_called) (born b)) ∙ p.called;
-    is = sym (ap (λ (x : Birth). x.caller) (born b)) ∙ p.is;
-  }
-
-  partner_before : (a b : ℕ) → IsPartner after.base a b → IsPartner w.base a b
-  partner_before a b (inl p) = inl (caller_before a b p)
-  partner_before a b (inr p) = inr (caller_before b a p)
-
-  terms_before : (a b : ℕ) (terms : Terms) → AreTerms after.base a b terms → AreTerms w.base a b terms
-  terms_before a b terms t = record {
-    own = λ called agreed is. t.own (ap (λ (x : Birth). x.is_called) (born a) ∙ called) agreed (agreed_on a ∙ is);
-    theirs = λ called agreed is. t.theirs (ap (λ (x : Birth). x.is_called) (born b) ∙ called) agreed (agreed_on b ∙ is);
-  }
-
   -- ---- places
 
   no_more : (r : ℕ) → IsFree after.base entity.own r
@@ -120,7 +98,7 @@ module _ (titles : List (List ℕ)) (timers : Timers) (w : Whole) (journal : Lis
   there_after address apart r None free = freely address r free
   there_after address apart r (Some e) is =
       kept_known w after address r e is refl (stays is.k (λ same. apart (sym is.at.address ∙ same))) is.at.low (λ j low _ _ held. (low, held_before j held))
-      (λ z terms p t. is.stands z terms (partner_before is.k z p) (terms_before is.k z terms t))
+      (λ z terms p t. is.stands z terms (partner_before w.base after.base born is.k z p) (terms_before w.base after.base born agreed_on is.k z terms t))
 
   own_holds : Holds timers after next
   own_holds = record {
@@ -197,7 +175,7 @@ module _ (titles : List (List ℕ)) (timers : Timers) (w : Whole) (journal : Lis
         (let old = before other x is in
         let t = known.titled other old.0 old.1 in
         (t.0, t.1, subst (λ (own : List ℕ). is_same_system t.0 own ≡ true) old.2 t.2));
-    begun = λ a b terms p is. (let was = known.begun a b terms (caller_before a b p) (sym (agreed_on b) ∙ is) in record { own = was.own; theirs = was.theirs });
+    begun = λ a b terms p is. (let was = known.begun a b terms (caller_before w.base after.base born a b p) (sym (agreed_on b) ∙ is) in record { own = was.own; theirs = was.theirs });
   }
 
 pub after_restart : (titles : List (List ℕ)) (timers : Timers) → AfterRestart titles timers

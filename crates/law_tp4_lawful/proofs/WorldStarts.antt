@@ -1,12 +1,13 @@
 -- A network before its first call is explained by a history in which nothing ever was.
 use Rattle.std.proofs.Common.{◌≡◌, ℕ, zero, suc, ◌-◌, ◌≤◌, ◌==◌, Bool, true, false, if◌then◌else◌, cond, List, [], ◌∷◌, ◌++◌, length, replicate, Option, Some, None, refl, sym, ◌∙◌, ap, subst, arith, append_assoc}
+use Rattle.std.proofs.lemmas.Bool.{eqb-true}
 use Rattle.std.specs.Prelude.{option_map, slice_get}
 use Rattle.std.specs.List.{AllByRecursion, find}
 use Rattle.nsap.specs.Address.{is_same_system, system_part}
 use Rattle.nsap.proofs.AddressLemmas.{is_same_system-Decides, system_part-append}
 use Rattle.osi_base.specs.Link.{Link}
 use Rattle.osi_base.specs.Calls.{Call, Keeps}
-use Rattle.script_journal.specs.Lawful.{KeepsSilence}
+use Rattle.script_journal.specs.Silence.{KeepsSilence}
 use Rattle.script_journal.specs.declared.event.Event.{Event}
 use Rattle.script_journal.specs.declared.event.Event.TheVariants as events
 use Rattle.net_world.specs.Told.{told}
@@ -66,16 +67,13 @@ pub record IsOne (P : Placed → Type 0) (system : ℕ) (e : Entity) : Type 0 wh
   pub entity_is : one.entity ≡ e
   pub holds : P one
 
-equal : (n m : ℕ) → (n == m) ≡ true → n ≡ m
-equal n m is = grind arith
-
 pub found : (P : Placed → Type 0) (placed : List Placed) (system : ℕ) (e : Entity) → AllByRecursion P placed → entity_at placed system ≡ Some e → IsOne P system e
 found P [] system e all is = absurd (none_some e is)
 found P (one ∷ placed) system e all is = by_first (is_of system one) refl is (found P placed system e all.1)
   where
     by_first : (here : Bool) → is_of system one ≡ here → option_map (λ (x : Placed). x.entity) (cond here (Some one) (find (is_of system) placed)) ≡ Some e
         → (entity_at placed system ≡ Some e → IsOne P system e) → IsOne P system e
-    by_first true at is rest = record { one = one; system_is = equal one.system system at; entity_is = some_same one.entity e is; holds = all.0 }
+    by_first true at is rest = record { one = one; system_is = eqb-true one.system system at; entity_is = some_same one.entity e is; holds = all.0 }
     by_first false at is rest = rest is
 
 none_there : (ends : List (Option End)) → AllByRecursion (λ place. place ≡ None) ends → (n : ℕ) → there (slice_get ends n) ≡ None

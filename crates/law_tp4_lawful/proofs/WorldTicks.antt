@@ -1,6 +1,7 @@
 -- A tick: the clock of the history goes on with that of the carrier, and then each entity ticks until none of its ends is due. So at the end no end
 -- of the network is due.
 use Rattle.std.proofs.Common.{◌≡◌, ℕ, ◌+◌, ◌⊎◌, ◌==◌, ◌||◌, Bool, true, false, List, [], ◌∷◌, ◌++◌, Option, Some, None, refl, sym, ◌∙◌, ap, subst, inl, inr, append_assoc, arith}
+use Rattle.std.proofs.lemmas.Bool.{eqb-true}
 use Rattle.std.specs.List.{list_any}
 use Rattle.std.proofs.lemmas.List.{append-nil}
 use Rattle.osi_base.specs.Link.{Link}
@@ -25,9 +26,6 @@ use Rattle.law_tp4_lawful.proofs.WorldAsides.{are_aside, told_quiet}
 use Rattle.law_tp4_lawful.proofs.WorldFloats.{tick_goes}
 use Rattle.law_tp4_lawful.proofs.WorldPlaces.{some_same}
 use Rattle.tp4_world.proofs.Having.{found_any, with_first, with_other}
-
-equal : (n m : ℕ) → (n == m) ≡ true → n ≡ m
-equal n m is = grind arith
 
 turned : (n m : ℕ) (b : Bool) → (n == m) ≡ b → (m == n) ≡ b
 turned n m true is = grind arith
@@ -127,7 +125,7 @@ module _ (titles : List (List ℕ)) (timers : Timers) (Knows : Knowing) (Offered
 
       by_system : (here : Bool) → (system == one.system) ≡ here → Sound x × ((first_due t.went.next.base.clock x ≡ None) ⊎ ((list_any (is_of system) placed ≡ true) × InTime t.went.next.base.clock x))
       by_system true here =
-          let same : system ≡ one.system = equal system one.system here in
+          let same : system ≡ one.system = eqb-true system one.system here in
           let done = t.done x (ap (entity_at new.entities) (sym same) ∙ is) in
           (done.0, inl (later done.1))
       by_system false here =

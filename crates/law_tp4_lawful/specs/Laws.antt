@@ -4,7 +4,8 @@ use Rattle.std.specs.Prelude.{◌≡◌, ℕ, true, List, ◌++◌, ◌≤◌}
 use Rattle.std.specs.List.{AllByRecursion}
 use Rattle.osi_base.specs.Link.{Link}
 use Rattle.osi_base.specs.Calls.{Call}
-use Rattle.script_journal.specs.Lawful.{KeepsSilence, Lawful}
+use Rattle.script_journal.specs.Lawful.{Lawful}
+use Rattle.script_journal.specs.Silence.{KeepsSilence}
 use Rattle.script_journal.specs.declared.event.Event.{Event}
 use Rattle.tp4_number.specs.Number.{wire}
 use Rattle.tp4_conn.specs.End.{IsTimed, frozen_for}

@@ -6,7 +6,8 @@ use Rattle.nsap.specs.Address.{selector_of}
 use Rattle.osi_base.specs.declared.unit.Unit.{Unit as CarriedUnit}
 use Rattle.osi_base.specs.Calls.{Call}
 use Rattle.osi_base.specs.Link.{Link}
-use Rattle.script_journal.specs.Lawful.{ArePartners, Makes, Marked, expediteds, normals, submitted}
+use Rattle.script_journal.specs.Lawful.{Makes, Marked, expediteds, normals, submitted}
+use Rattle.script_journal.specs.Partner.{ArePartners}
 use Rattle.script_journal.specs.RawLawful.{tick_after}
 use Rattle.script_journal.specs.declared.event.Event.{Event}
 use Rattle.script_lines.specs.declared.line.Line.{Line}

@@ -10,6 +10,7 @@ use Rattle.tp4_conn.specs.End.{Moved, IsTimed, end_of, frozen_for}
 use Rattle.tp4_conn.specs.Making.{caller, connected, on_cr}
 use Rattle.law_tp4_history.specs.Ends.{IsFit, frozen, Cr, Tpdu, Offer, Sent as SentBy, Alone, IsOffered}
 use Rattle.law_tp4_history.specs.History.{History, IsFree, IsNotSilent, IsFresh, IsReading, IsBegun, Connect, Indicate, May}
+use Rattle.law_tp4_history.proofs.Offered.{begins_now}
 use Rattle.law_tp4_moves.specs.Begins.{begun, indicated_by, HasNoEnd}
 use Rattle.law_tp4_moves.specs.Moves.{times_of, AreTries, Sees}
 use Rattle.law_tp4_moves.specs.Seen.{seen, AreOffersOf}
@@ -43,21 +44,7 @@ begins h address call offered some free not_silent are = (is_begun, λ o c. (is_
   where
     is_begun : IsBegun (times_of call.rules) h (begun h address call)
     is_begun = record {
-      new = record {
-        some = some;
-        made = refl;
-        event = refl;
-        took = refl;
-        now_low = omega arith;
-        latest_low = omega arith;
-        parted = refl;
-        agreed = refl;
-        waits = inl refl;
-        going = refl;
-        is_held = refl;
-        free = free;
-        not_silent = not_silent;
-      };
+      new = begins_now (times_of call.rules) h (begun h address call) (inl refl) some refl refl (omega arith) (omega arith) free not_silent;
       calls = refl;
       known = refl;
     }
@@ -97,21 +84,7 @@ indicates h own from n rules (wires.Cr credit source width calling called size p
         timely = omega arith;
       }),
       record {
-        new = record {
-          some = some;
-          made = refl;
-          event = refl;
-          took = refl;
-          now_low = omega arith;
-          latest_low = omega arith;
-          parted = refl;
-          agreed = refl;
-          waits = inr refl;
-          going = refl;
-          is_held = refl;
-          free = free;
-          not_silent = not_silent;
-        };
+        new = begins_now (times_of rules) h (indicated_by h own rules from o) (inr refl) some refl refl (omega arith) (omega arith) free not_silent;
         offered = offered;
         fresh = fresh;
         request = kind;

@@ -6,7 +6,7 @@ use Rattle.tpdu.specs.declared.tpdu.Tpdu.TheVariants as wires
 use Rattle.tpdu.specs.declared.service.Options.{Options}
 use Rattle.tp4_flow.specs.declared.step.EndEvent.{EndEvent}
 use Rattle.tp4_flow.specs.declared.step.Sent.{Sent}
-use Rattle.tp4_sending.specs.FlowSender.{Sendings, at, opened}
+use Rattle.tp4_sending.specs.SendingHalf.{Sendings, at, opened}
 use Rattle.tp4_sending.specs.Pieces.{once, again}
 use Rattle.tp4_conn.specs.declared.end_record.EndRecord.{EndRecord}
 use Rattle.tp4_conn.specs.declared.states.InAkWait.{InAkWait}

@@ -10,7 +10,7 @@ use Rattle.tp4_number.specs.Sender.{Sender, told, is_newer}
 use Rattle.tp4_number.specs.Traffic.{Answer, Ak_comes, Open}
 use Rattle.tp4_number.specs.Expedited.{Ea_comes}
 use Rattle.tp4_number.proofs.Past.{if_kept}
-use Rattle.tp4_sending.specs.FlowSender.{FlowSender, Sendings, block_in, new_sends, opened, submitted, urged, is_taken, acknowledged_to, acknowledged, is_outstanding, urgent_done}
+use Rattle.tp4_sending.specs.SendingHalf.{FlowSender, Sendings, block_in, new_sends, opened, submitted, urged, is_taken, acknowledged_to, acknowledged, is_outstanding, urgent_done}
 use Rattle.tp4_sending.specs.Kept.{urgent_base}
 use Rattle.tp4_sending.specs.Pieces.{count_in, freed}
 use Rattle.tp4_sending.specs.declared.tries.Tries.{Tries}

@@ -15,7 +15,7 @@ use Rattle.tp4_number.specs.Number.{whole, wire}
 use Rattle.tp4_number.specs.Sender.{Sender}
 use Rattle.tp4_number.specs.Traffic.{Answer, Dt_comes, Grant, Acknowledge}
 use Rattle.tp4_number.specs.Expedited.{Urgent, Ed_comes}
-use Rattle.tp4_flow.specs.Half.{Half, Received, block_in, ak, aks, ea, dt_arrival, half_after, taken_dt, taken_ed, is_next, is_before, allowed, half_granted}
+use Rattle.tp4_flow.specs.ReceivingHalf.{Half, Received, block_in, ak, aks, ea, dt_arrival, half_after, taken_dt, taken_ed, is_next, is_before, allowed, half_granted}
 use Rattle.tp4_flow.specs.Told.{gots}
 use Rattle.tp4_flow.specs.declared.rules.FlowRules.{FlowRules}
 use Rattle.tp4_flow.specs.declared.step.What.TheVariants as whats

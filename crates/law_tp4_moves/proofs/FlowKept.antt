@@ -9,8 +9,8 @@ use Rattle.tpdu.specs.Writing.{IsAllowed}
 use Rattle.script_journal.specs.Lawful.{Marked, normals, expediteds}
 use Rattle.tp4_number.specs.Receiver.{Receiver}
 use Rattle.tp4_number.specs.Traffic.{Rules}
-use Rattle.tp4_flow.specs.Half.{Half}
-use Rattle.tp4_sending.specs.FlowSender.{FlowSender}
+use Rattle.tp4_flow.specs.ReceivingHalf.{Half}
+use Rattle.tp4_sending.specs.SendingHalf.{FlowSender}
 use Rattle.tp4_sending.specs.Kept.{urgent_base}
 use Rattle.tp4_conn.specs.declared.end_record.EndRecord.{EndRecord}
 use Rattle.tp4_conn.specs.declared.halves.Halves.{Halves}

@@ -1,32 +1,12 @@
 -- Nothing of a line is forgotten: what was sent stands in it whatever happens next.
-use Rattle.std.proofs.Common.{ℕ, List, [], ◌∷◌, ◌++◌, refl, sym, ◌∙◌, subst}
+use Rattle.std.proofs.Common.{ℕ, List, [], ◌∷◌, ◌++◌, sym, ◌∙◌, subst}
 use Rattle.tp4_flow.specs.declared.step.Sent.{Sent}
 use Rattle.law_tp4_history.specs.Ends.{Body, Plain, Dt, Ed, Ak, Ea}
 use Rattle.law_tp4_history.specs.Line.{Line, Happening, next}
 use Rattle.law_tp4_history.specs.Tracks.{Track, RunsBy}
-use Rattle.law_tp4_history.proofs.Tracked.{Grows, grows_next}
+use Rattle.law_tp4_history.proofs.Tracked.{Grows, grows_none, grows_on, grows_next}
 use Rattle.law_tp4_moves.specs.Seen.{seen}
 use Rattle.law_tp4_moves.specs.Lines.{IsIn, AreSentIn}
-
-pub grows_none : (size : ℕ) (l : Line) → Grows size l l
-grows_none size l = record {
-  sends = λ x c. c;
-  answers = λ x c. c;
-  eds = λ x c. c;
-  eas = λ x c. c;
-  pieces = λ n p e. e;
-  units = λ n low. (low, refl);
-}
-
-grows_on : (size : ℕ) (a b c : Line) → Grows size a b → Grows size b c → Grows size a c
-grows_on size a b c f g = record {
-  sends = λ x i. g.sends x (f.sends x i);
-  answers = λ x i. g.answers x (f.answers x i);
-  eds = λ x i. g.eds x (f.eds x i);
-  eas = λ x i. g.eas x (f.eas x i);
-  pieces = λ n p e. g.pieces n p (f.pieces n p e);
-  units = λ n low. let u = f.units n low in let v = g.units n u.0 in (v.0, v.1 ∙ u.1);
-}
 
 pub grows_by : (can : Track → Line → Happening → Type 0) (t : Track) (l new : Line) (happenings : List Happening) → RunsBy can t l happenings new → Grows t.size l new
 grows_by can t l new [] r = subst (Grows t.size l) (sym r) (grows_none t.size l)

@@ -13,13 +13,13 @@ use Rattle.tp4_number.specs.Formats.{block_of}
 use Rattle.tp4_number.specs.Number.{whole, wire}
 use Rattle.tp4_number.specs.Traffic.{Rules}
 use Rattle.tp4_number.proofs.Past.{if_kept}
-use Rattle.tp4_flow.specs.Half.{Half, Received, dt_arrival, half_granted, block_in as block_there}
+use Rattle.tp4_flow.specs.ReceivingHalf.{Half, Received, dt_arrival, half_granted, block_in as block_there}
 use Rattle.tp4_flow.specs.declared.rules.Life.{Life}
 use Rattle.tp4_flow.specs.declared.rules.Life.TheVariants.{Goes, Exhausted}
 use Rattle.tpdu.specs.declared.service.Options.{Options}
 use Rattle.tp4_flow.specs.declared.rules.SubmitRefusal.TheVariants as submits
 use Rattle.tp4_flow.specs.declared.step.EndEvent.{EndEvent}
-use Rattle.tp4_sending.specs.FlowSender.{FlowSender, Sendings, at, block_in, opened, life_of, refusal}
+use Rattle.tp4_sending.specs.SendingHalf.{FlowSender, Sendings, at, block_in, opened, life_of, refusal}
 use Rattle.tp4_conn.specs.declared.end_record.EndRecord.{EndRecord}
 use Rattle.tp4_conn.specs.declared.call.UserCall.{UserCall}
 use Rattle.tp4_conn.specs.declared.call.UserCall.TheVariants as calls

@@ -8,15 +8,16 @@ use Rattle.tp4_number.specs.Traffic.{Answer}
 use Rattle.script_journal.specs.Lawful.{Marked, normals, expediteds}
 use Rattle.tp4_flow.specs.declared.rules.FlowRules.{FlowRules}
 use Rattle.tp4_flow.specs.declared.step.EndEvent.{EndEvent}
-use Rattle.tp4_sending.specs.FlowSender.{FlowSender, Sendings, UrgentSender, nothing, then_sends}
+use Rattle.tp4_sending.specs.SendingHalf.{FlowSender, Sendings, UrgentSender, nothing, then_sends}
 use Rattle.tp4_sending.specs.Kept.{urgent_base}
 use Rattle.tp4_sending.specs.Pieces.{Queue, count_in}
 use Rattle.tp4_sending.specs.declared.tries.Tries.{Tries}
 use Rattle.law_tp4_history.specs.Ends.{Offer}
 use Rattle.law_tp4_history.specs.Line.{Line, Happening}
 use Rattle.law_tp4_history.specs.Tracks.{Track, CanOut, RunsBy}
+use Rattle.law_tp4_history.proofs.Tracked.{grows_none}
 use Rattle.law_tp4_moves.specs.Lines.{AreSentIn, shown_as, shown_in}
-use Rattle.law_tp4_moves.proofs.FlowLines.{grows_none, grows_by, runs_then, at_line, sent_later, sent_both}
+use Rattle.law_tp4_moves.proofs.FlowLines.{grows_by, runs_then, at_line, sent_later, sent_both}
 
 -- what of a line is no part of the sending half
 pub record Around : Type 0 where

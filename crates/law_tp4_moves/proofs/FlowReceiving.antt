@@ -4,7 +4,7 @@ use Rattle.script_journal.specs.Lawful.{expediteds}
 use Rattle.tp4_number.specs.declared.piece.Piece.{Piece}
 use Rattle.tp4_number.specs.Formats.{block_of}
 use Rattle.tp4_number.specs.Number.{whole, wire}
-use Rattle.tp4_flow.specs.Half.{Half, Received, block_in, ak, taken_dt, taken_ed, half_granted}
+use Rattle.tp4_flow.specs.ReceivingHalf.{Half, Received, block_in, ak, taken_dt, taken_ed, half_granted}
 use Rattle.tp4_flow.specs.declared.rules.FlowRules.{FlowRules}
 use Rattle.law_tp4_history.specs.Ends.{Offer, Flow, Dt, Ed}
 use Rattle.law_tp4_history.specs.Line.{Line}

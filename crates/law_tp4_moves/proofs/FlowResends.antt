@@ -9,7 +9,7 @@ use Rattle.tp4_number.specs.Expedited.{Resends_ed}
 use Rattle.tp4_number.proofs.Past.{if_kept}
 use Rattle.tp4_flow.specs.declared.rules.Life.{Life}
 use Rattle.tp4_flow.specs.declared.rules.Life.TheVariants.{Goes as Going, Exhausted}
-use Rattle.tp4_sending.specs.FlowSender.{FlowSender, Sendings, then_sends, block_in, dts_of, eds, marked_all, all_dts, due_numbers, resends, retried_urgent, resends_urgent_as, resends_urgent, new_sends, ticked_as, life_of, ticked}
+use Rattle.tp4_sending.specs.SendingHalf.{FlowSender, Sendings, then_sends, block_in, dts_of, eds, marked_all, all_dts, due_numbers, resends, retried_urgent, resends_urgent_as, resends_urgent, new_sends, ticked_as, life_of, ticked}
 use Rattle.tp4_sending.specs.Kept.{urgent_base}
 use Rattle.tp4_sending.specs.Pieces.{is_due, again, due_from}
 use Rattle.tp4_sending.specs.declared.tries.Tries.{Tries}

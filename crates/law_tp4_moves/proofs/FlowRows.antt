@@ -13,9 +13,9 @@ use Rattle.tp4_number.specs.Formats.{block_of, most_of}
 use Rattle.tp4_number.specs.Number.{whole}
 use Rattle.tp4_number.specs.Traffic.{Rules}
 use Rattle.tp4_number.proofs.Past.{if_kept}
-use Rattle.tp4_flow.specs.Half.{empty, ak}
+use Rattle.tp4_flow.specs.ReceivingHalf.{empty, ak}
 use Rattle.tpdu.specs.declared.service.Options.{Options}
-use Rattle.tp4_sending.specs.FlowSender.{at, fresh, opened}
+use Rattle.tp4_sending.specs.SendingHalf.{at, fresh, opened}
 use Rattle.tp4_conn.specs.declared.end_record.EndRecord.{EndRecord}
 use Rattle.tp4_conn.specs.declared.call.UserCall.{UserCall}
 use Rattle.tp4_conn.specs.declared.call.UserCall.TheVariants as calls

@@ -3,7 +3,7 @@ use Rattle.std.proofs.Common.{◌≡◌, ◌↔◌, ℕ, true, List, subst}
 use Rattle.tp4_number.specs.declared.blocks.Blocks.{Blocks}
 use Rattle.tp4_number.specs.Number.{MaySend}
 use Rattle.tp4_number.specs.Sender.{may_send}
-use Rattle.tp4_sending.specs.FlowSender.{FlowSender, block_in}
+use Rattle.tp4_sending.specs.SendingHalf.{FlowSender, block_in}
 use Rattle.law_tp4_history.specs.Ends.{Times, IsFit}
 use Rattle.law_tp4_history.specs.Tracks.{Whole, ReachedAll}
 use Rattle.law_tp4_history.proofs.Tracked.{all_numbered}

@@ -4,7 +4,7 @@ use Rattle.script_journal.specs.Lawful.{Marked, Normal, Expedited}
 use Rattle.tp4_number.specs.Formats.{block_of}
 use Rattle.tp4_number.specs.Number.{wire}
 use Rattle.tp4_flow.specs.declared.rules.FlowRules.{FlowRules}
-use Rattle.tp4_sending.specs.FlowSender.{FlowSender, Sendings, at, block_in, opened, submitted, urged, acknowledged, urgent_done, ticked}
+use Rattle.tp4_sending.specs.SendingHalf.{FlowSender, Sendings, at, block_in, opened, submitted, urged, acknowledged, urgent_done, ticked}
 use Rattle.law_tp4_history.specs.Ends.{Offer, Flow, Ak, Ea}
 use Rattle.law_tp4_history.specs.Line.{Line}
 use Rattle.law_tp4_history.specs.Tracks.{Track, CanOut, RunsBy, GoesOn}

@@ -10,7 +10,7 @@ use Rattle.tp4_number.proofs.Past.{if_kept}
 use Rattle.tp4_number.specs.Traffic.{Send}
 use Rattle.tp4_number.specs.Expedited.{Sends_ed}
 use Rattle.script_journal.specs.Lawful.{normals as normals_of, expediteds}
-use Rattle.tp4_sending.specs.FlowSender.{FlowSender, Sendings, rule_allows, dts, dts_of, eds, is_noted, holds, sent_urgent, one_urgent, sent_normal, one_normal, held_normal, has_next, normals, is_urgent, normals_where, new_sends}
+use Rattle.tp4_sending.specs.SendingHalf.{FlowSender, Sendings, rule_allows, dts, dts_of, eds, is_noted, holds, sent_urgent, one_urgent, sent_normal, one_normal, held_normal, has_next, normals, is_urgent, normals_where, new_sends}
 use Rattle.tp4_sending.specs.Kept.{urgent_base}
 use Rattle.tp4_sending.specs.Pieces.{cut_at, end_of, once}
 use Rattle.tp4_sending.specs.declared.tries.Tries.{Tries}

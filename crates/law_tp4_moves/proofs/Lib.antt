@@ -10,7 +10,7 @@ mod FlowKept
 mod FlowLines
 mod FlowOffers
 mod FlowOpened
-mod FlowOut
+pub mod FlowOut
 mod FlowReceiving
 mod FlowResends
 mod FlowRows

@@ -11,7 +11,8 @@ use Rattle.tp4_conn.specs.Agreeing.{is_extended, flow_rules, request, confirm}
 use Rattle.tp4_conn.specs.End.{IsSized, send, release}
 use Rattle.tp4_conn.proofs.Agreed.{options_back}
 use Rattle.tp4_conn.specs.UserWait.{refusing}
-use Rattle.law_tp4_history.specs.Ends.{Times, Dr, Terms, Tpdu, Offer, Sent as SentBy, End, Cause, Took, To_known, Back, IsOpen, IsOffered}
+use Rattle.law_tp4_history.specs.Ends.{Times, Dr, Dc, Terms, Tpdu, Offer, Sent as SentBy, End, Cause, Took, Goes, To_known, Back, IsOpen, IsOffered}
+use Rattle.law_tp4_history.proofs.Offered.{cr_offered, control_offered, flow_offered}
 use Rattle.law_tp4_moves.specs.Seen.{terms_of, seen, IsOfferOf, AreOffersOf}
 use Rattle.law_tp4_moves.proofs.Halves.{IsFlow, AreFlows}
 
@@ -63,106 +64,39 @@ module _ (times : Times) (now : ℕ) (cause : Cause) (h new : End) where
 
   pub cr_offerable : (b : EndRecord) (octets : List ℕ) → h.birth.is_called ≡ false → h.birth.partner ≡ b.to → h.birth.reference ≡ b.own
       → h.birth.words.calling ≡ b.calling → h.birth.words.called ≡ b.called → h.birth.words.octets ≡ octets → now ≤ h.birth.made + times.most → IsOfferable (request b octets)
-  cr_offerable b octets calls to own calling called is soon = at_offer (request b octets) (λ number n. record {
-    tick = refl;
-    origin = refl;
-    from = refl;
-    request = λ _. record { calls = calls; to = sym to; source = sym own; words = λ i. record { calling = sym calling i; called = sym called i; octets = sym is i }; soon = soon };
-    to = λ some. absurd (some refl);
-    goes = λ some. absurd (some refl);
-    confirm = λ e. absurd cc;
-    terms = λ e. absurd cc;
-    plain = λ _. refl;
-    flow = λ e. absurd cc;
-    opened = λ e. absurd cc;
-    parting = λ e. absurd cc;
-  })
+  cr_offerable b octets calls to own calling called is soon = at_offer (request b octets) (λ number n. cr_offered times now number cause h new (offer_of number n (request b octets)) refl refl refl refl refl
+      (record { calls = calls; to = sym to; source = sym own; words = λ i. record { calling = sym calling i; called = sym called i; octets = sym is i }; soon = soon }))
+
+  -- a TPDU to the reference that the end knows
+  named : (c : EndRecord) (o : Offer) → o.tpdu.kind ≢ Dc → new.known ≡ c.partner → c.partner ≢ 0 → o.tpdu.target ≡ c.partner → Goes cause new o
+  named c o other known some target = To_known other (λ e. some (sym known ∙ e)) (target ∙ sym known)
 
   pub cc_offerable : (c : EndRecord) (o : Options) (octets : List ℕ) → h.birth.partner ≡ c.to → h.birth.reference ≡ c.own → new.known ≡ c.partner → c.partner ≢ 0
       → IsSized o → new.agreed ≡ Some (terms_of o) → IsOfferable (confirm c o octets)
-  cc_offerable c o octets to own known some sized agreed = at_offer (confirm c o octets) (λ number n. record {
-    tick = refl;
-    origin = refl;
-    from = refl;
-    request = λ e. absurd cc;
-    to = λ _. sym to;
-    goes = λ _. To_known (λ e. absurd cc) (λ e. some (sym known ∙ e)) (sym known);
-    confirm = λ _. sym own;
-    terms = λ _. agreed ∙ ap (λ (t : Terms). Some t) (sym (ap terms_of (options_back o sized)));
-    plain = λ _. refl;
-    flow = λ e. absurd cc;
-    opened = λ e. absurd cc;
-    parting = λ e. absurd cc;
-  })
+  cc_offerable c o octets to own known some sized agreed = at_offer (confirm c o octets) (λ number n. let x = offer_of number n (confirm c o octets) in
+      control_offered times now number cause h new x refl refl refl (λ e. cc) (λ e. cc) refl (sym to) (named c x (λ e. cc) known some refl)
+      (λ _. (sym own, agreed ∙ ap (λ (t : Terms). Some t) (sym (ap terms_of (options_back o sized))))) (λ e. absurd cc))
 
   pub dr_offerable : (c : EndRecord) (reason : ℕ) (octets : List ℕ) → h.birth.partner ≡ c.to → h.birth.reference ≡ c.own → new.known ≡ c.partner → c.partner ≢ 0
       → new.is_parted ≡ true → IsOfferable (release c reason octets)
-  dr_offerable c reason octets to own known some parted = at_offer (release c reason octets) (λ number n. record {
-    tick = refl;
-    origin = refl;
-    from = refl;
-    request = λ e. absurd cc;
-    to = λ _. sym to;
-    goes = λ _. To_known (λ e. absurd cc) (λ e. some (sym known ∙ e)) (sym known);
-    confirm = λ e. absurd cc;
-    terms = λ e. absurd cc;
-    plain = λ _. refl;
-    flow = λ e. absurd cc;
-    opened = λ e. absurd cc;
-    parting = λ _ _. (sym own, parted);
-  })
+  dr_offerable c reason octets to own known some parted = at_offer (release c reason octets) (λ number n. let x = offer_of number n (release c reason octets) in
+      control_offered times now number cause h new x refl refl refl (λ e. cc) (λ e. cc) refl (sym to) (named c x (λ e. cc) known some refl) (λ e. absurd cc) (λ _ _. (sym own, parted)))
 
   pub refusal_offerable : (c : EndRecord) (octets : List ℕ) → h.birth.partner ≡ c.to → new.known ≡ c.partner → c.partner ≢ 0 → IsOfferable (refusing c octets)
-  refusal_offerable c octets to known some = at_offer (refusing c octets) (λ number n. record {
-    tick = refl;
-    origin = refl;
-    from = refl;
-    request = λ e. absurd cc;
-    to = λ _. sym to;
-    goes = λ _. To_known (λ e. absurd cc) (λ e. some (sym known ∙ e)) (sym known);
-    confirm = λ e. absurd cc;
-    terms = λ e. absurd cc;
-    plain = λ _. refl;
-    flow = λ e. absurd cc;
-    opened = λ e. absurd cc;
-    parting = λ _ other. absurd (other refl);
-  })
+  refusal_offerable c octets to known some = at_offer (refusing c octets) (λ number n. let x = offer_of number n (refusing c octets) in
+      control_offered times now number cause h new x refl refl refl (λ e. cc) (λ e. cc) refl (sym to) (named c x (λ e. cc) known some refl) (λ e. absurd cc) (λ _ other. absurd (other refl)))
 
   pub dc_offerable : (c : EndRecord) (source : ℕ) (dr : Tpdu) → h.birth.partner ≡ c.to → cause ≡ Took dr → dr.kind ≡ Dr → dr.source ≡ source → source ≢ 0
       → IsOfferable (send c (wires.Dc source c.own))
-  dc_offerable c source dr to took kind is some = at_offer (send c (wires.Dc source c.own)) (λ number n. record {
-    tick = refl;
-    origin = refl;
-    from = refl;
-    request = λ e. absurd cc;
-    to = λ _. sym to;
-    goes = λ _. Back dr took kind (λ e. some (sym is ∙ e)) (sym is);
-    confirm = λ e. absurd cc;
-    terms = λ e. absurd cc;
-    plain = λ _. refl;
-    flow = λ e. absurd cc;
-    opened = λ e. absurd cc;
-    parting = λ e. absurd cc;
-  })
+  dc_offerable c source dr to took kind is some = at_offer (send c (wires.Dc source c.own)) (λ number n. control_offered times now number cause h new (offer_of number n (send c (wires.Dc source c.own))) refl refl refl
+      (λ e. cc) (λ e. cc) refl (sym to) (Back dr took kind (λ e. some (sym is ∙ e)) (sym is)) (λ e. absurd cc) (λ e. absurd cc))
 
   -- what the halves send, and when a called end has any
   module _ (c : EndRecord) (o : Options) (to : h.birth.partner ≡ c.to) (known : new.known ≡ c.partner) (some : c.partner ≢ 0) (agreed : new.agreed ≡ Some (terms_of o))
       (is_open : h.birth.is_called ≡ true → IsOpen cause h) where
     pub flow_offerable : (sent : Sent) → IsFlow (flow_rules c o) sent → IsOfferable sent
-    flow_offerable sent f = at_offer sent (λ number n. let kind = f.kind n in record {
-      tick = refl;
-      origin = refl;
-      from = refl;
-      request = λ e. absurd cc;
-      to = λ _. f.to ∙ sym to;
-      goes = λ _. To_known (λ e. absurd cc) (λ e. some (sym known ∙ e)) (f.target n ∙ sym known);
-      confirm = λ e. absurd cc;
-      terms = λ e. absurd cc;
-      plain = λ other. absurd (other kind);
-      flow = λ _. (terms_of o, agreed, ap (λ (g : Format). is_extended g) f.format);
-      opened = λ _ called. is_open called;
-      parting = λ e. absurd cc;
-    })
+    flow_offerable sent f = at_offer sent (λ number n. flow_offered times now number cause h new (offer_of number n sent) refl refl refl (f.kind n) (f.to ∙ sym to) (λ e. some (sym known ∙ e)) (f.target n ∙ sym known)
+        (terms_of o, agreed, ap (λ (g : Format). is_extended g) f.format) is_open)
 
     pub flows_offerable : (tpdus : List Sent) → AreFlows (flow_rules c o) tpdus → AreOfferable tpdus
     flows_offerable [] f = tt

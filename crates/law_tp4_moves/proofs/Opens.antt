@@ -5,13 +5,13 @@ use Rattle.tpdu.specs.declared.tpdu.Tpdu.TheVariants as wires
 use Rattle.tp4_number.specs.declared.got.Got.{Got}
 use Rattle.tp4_number.specs.declared.got.Got.TheVariants as gots
 use Rattle.tp4_number.specs.declared.piece.Piece.{Piece}
-use Rattle.tp4_flow.specs.Half.{Half, Received, ak, aks, dt_arrival, taken_dt, half_granted}
+use Rattle.tp4_flow.specs.ReceivingHalf.{Half, Received, ak, aks, dt_arrival, taken_dt, half_granted}
 use Rattle.tpdu.specs.declared.service.Options.{Options}
 use Rattle.tp4_flow.specs.declared.rules.Life.{Life}
 use Rattle.tp4_flow.specs.declared.rules.Life.TheVariants.{Goes, Exhausted}
 use Rattle.tp4_flow.specs.declared.step.EndEvent.{EndEvent}
 use Rattle.tp4_flow.specs.declared.step.Sent.{Sent}
-use Rattle.tp4_sending.specs.FlowSender.{Sendings, at, acknowledged, urgent_done, life_of, ticked}
+use Rattle.tp4_sending.specs.SendingHalf.{Sendings, at, acknowledged, urgent_done, life_of, ticked}
 use Rattle.tp4_conn.specs.declared.end_record.EndRecord.{EndRecord}
 use Rattle.tp4_conn.specs.declared.halves.Halves.{Halves}
 use Rattle.tp4_conn.specs.declared.states.InOpened.{InOpened}

@@ -62,6 +62,32 @@ parts_in other parted p e = absurd cc
 in_times : (times : Times) (t : Timers) (latest took : ℕ) → times ≡ times_of t → latest ≤ took + t.inactive + span t → latest ≤ took + times.idle + times.span
 in_times times t latest took e low = subst (λ (x : Times). latest ≤ took + x.idle + x.span) (sym e) low
 
+-- the end of b, with the partner, the credit, the terms and the clock of c
+abbrev as_now : EndRecord → EndRecord → EndRecord
+as_now b c = record b { partner = c.partner; credit = c.credit; agreed = c.agreed; clock = c.clock }
+
+-- what never changes in an end is seen of it as before
+pub still_seen : (times : Times) (now tick : ℕ) (h new : End) (b c : EndRecord) (stage to : StateData) → Sees times now h (record { base = b; stage = stage }) → new.phase ≡ phase_of to → new.stop ≡ stop_of to
+    → new.is_out ≡ false → new.known ≡ c.partner → new.agreed ≡ option_map terms_of c.agreed → IsPartedIn to new.is_parted → IsSeenIn h.birth new.took new.latest (as_now b c) to
+    → IsInTime (acts_by (as_now b c) to) tick → Sees times tick (record new { birth = h.birth }) (record { base = as_now b c; stage = to })
+still_seen times now tick h new b c stage to s phase stop is_held known agreed parted state timely = record {
+  timers = s.timers;
+  times_are = s.times_are;
+  reference = s.reference;
+  partner = s.partner;
+  is_called = s.is_called;
+  calling = s.calling;
+  called = s.called;
+  phase = phase;
+  stop = stop;
+  is_held = is_held;
+  known = known;
+  agreed = agreed;
+  parted = parted;
+  state = state;
+  timely = timely;
+}
+
 -- an end h that is seen of b in that state and goes on; the tick now is the clock of b
 module _ (times : Times) (h : End) (b : EndRecord) (stage : StateData) (s : Sees times b.clock h (record { base = b; stage = stage })) (going : h.stop ≡ None) (low : b.clock ≤ h.latest)
     (cause : Cause) where
@@ -101,23 +127,7 @@ module _ (times : Times) (h : End) (b : EndRecord) (stage : StateData) (s : Sees
       → Moves times b.clock cause h (record { base = record b { partner = partner; credit = credit; agreed = agreed }; stage = to; events = events; tpdus = tpdus })
   by_row partner credit agreed to latest parted events tpdus r = record {
     new = new_end partner agreed to latest parted;
-    sees = record {
-      timers = s.timers;
-      times_are = s.times_are;
-      reference = s.reference;
-      partner = s.partner;
-      is_called = s.is_called;
-      calling = s.calling;
-      called = s.called;
-      phase = refl;
-      stop = refl;
-      is_held = refl;
-      known = refl;
-      agreed = refl;
-      parted = r.parted_in;
-      state = r.state;
-      timely = r.timely;
-    };
+    sees = still_seen times b.clock b.clock h (new_end partner agreed to latest parted) b (record b { partner = partner; credit = credit; agreed = agreed }) stage to s refl refl refl refl refl r.parted_in r.state r.timely;
     move = λ number offered are. record {
       same = refl;
       was_going = going;

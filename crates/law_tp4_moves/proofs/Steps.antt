@@ -3,7 +3,7 @@
 use Rattle.std.proofs.Common.{◌≡◌, ℕ, ◌+◌, ◌<◌, ◌≤◌, min, Bool, true, false, ◌&&◌, not, [], Option, Some, None, le_of_eq, refl, sym, ◌∙◌, ap, subst, arith, if◌then◌else◌}
 use Rattle.std.proofs.lemmas.Option.{none-some, same_Some}
 use Rattle.tpdu.specs.declared.tpdu.Tpdu.{Tpdu as WireTpdu}
-use Rattle.tp4_sending.specs.FlowSender.{due_of}
+use Rattle.tp4_sending.specs.SendingHalf.{due_of}
 use Rattle.tp4_sending.specs.Pieces.{sooner}
 use Rattle.tp4_conn.specs.declared.end_record.EndRecord.{EndRecord}
 use Rattle.tp4_conn.specs.declared.call.UserCall.{UserCall}
@@ -25,7 +25,7 @@ use Rattle.law_tp4_moves.proofs.Called.{accepts, user_refuses, user_tick, ak_tpd
 use Rattle.law_tp4_moves.proofs.Calling.{never, cr_tpdu, cr_tick, cr_parts, wait_tpdu, wait_tick}
 use Rattle.law_tp4_moves.proofs.Closes.{closing_takes, closing_ticks}
 use Rattle.law_tp4_moves.proofs.Opens.{opened_takes, normal_sent, urgent_sent, credit_granted, opened_parts, opened_ticks}
-use Rattle.law_tp4_moves.proofs.Rows.{rests, all_tries}
+use Rattle.law_tp4_moves.proofs.Rows.{still_seen, rests, all_tries}
 
 -- the clock of an end is not seen
 own_at : (now : ℕ) (b : EndRecord) (halves : Halves) → AreOwn b halves → AreOwn (at now b) halves
@@ -49,23 +49,8 @@ bound_at now tick b other f = f
 
 sees_at : (times : Times) (now tick : ℕ) (h : End) (b : EndRecord) (stage : StateData) → Sees times tick h (record { base = b; stage = stage })
     → Sees times tick h (record { base = at now b; stage = stage })
-sees_at times now tick h b stage s = record {
-  timers = s.timers;
-  times_are = s.times_are;
-  reference = s.reference;
-  partner = s.partner;
-  is_called = s.is_called;
-  calling = s.calling;
-  called = s.called;
-  phase = s.phase;
-  stop = s.stop;
-  is_held = s.is_held;
-  known = s.known;
-  agreed = s.agreed;
-  parted = s.parted;
-  state = state_at now h.birth h.took h.latest b stage s.state;
-  timely = bound_at now tick b stage s.timely;
-}
+sees_at times now tick h b stage s =
+    still_seen times tick tick h h b (at now b) stage stage s s.phase s.stop s.is_held s.known s.agreed s.parted (state_at now h.birth h.took h.latest b stage s.state) (bound_at now tick b stage s.timely)
 
 -- the tick by which the end acts is there, and by its latest
 pub record IsBy (latest : ℕ) (tick : Option ℕ) : Type 0 where
@@ -125,23 +110,8 @@ passes b (stages.Frozen when) now before = tt
 passes b other now before = omega arith
 
 pub passed : (times : Times) (now : ℕ) (h : End) (e : ConnEnd) → Sees times now h e → IsBefore (due e.base e.stage) now → Sees times (now + 1) h e
-passed times now h e s before = record {
-  timers = s.timers;
-  times_are = s.times_are;
-  reference = s.reference;
-  partner = s.partner;
-  is_called = s.is_called;
-  calling = s.calling;
-  called = s.called;
-  phase = s.phase;
-  stop = s.stop;
-  is_held = s.is_held;
-  known = s.known;
-  agreed = s.agreed;
-  parted = s.parted;
-  state = s.state;
-  timely = passes e.base e.stage now before;
-}
+passed times now h e s before =
+    still_seen times now (now + 1) h h e.base e.base e.stage e.stage s s.phase s.stop s.is_held s.known s.agreed s.parted s.state (passes e.base e.stage now before)
 
 pub before_latest : (times : Times) (now : ℕ) (h : End) (e : ConnEnd) → Sees times now h e → h.stop ≡ None → IsBefore (due e.base e.stage) now → now < h.latest
 before_latest times now h e s going before =

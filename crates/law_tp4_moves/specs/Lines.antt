@@ -7,13 +7,13 @@ use Rattle.tpdu.specs.declared.tpdu.Tpdu.{Tpdu as WireTpdu}
 use Rattle.tpdu.specs.declared.tpdu.Tpdu.TheVariants as wires
 use Rattle.script_journal.specs.Lawful.{Marked, Normal, Expedited, normals, expediteds}
 use Rattle.tp4_number.specs.Formats.{block_of}
-use Rattle.tp4_flow.specs.Half.{Half, empty, block_in as block_there}
+use Rattle.tp4_flow.specs.ReceivingHalf.{Half, empty, block_in as block_there}
 use Rattle.tpdu.specs.declared.service.Options.{Options}
 use Rattle.tp4_flow.specs.declared.step.EndEvent.{EndEvent}
 use Rattle.tp4_flow.specs.declared.step.Sent.{Sent}
 use Rattle.tp4_flow.specs.declared.step.What.{What}
 use Rattle.tp4_flow.specs.declared.step.What.TheVariants as whats
-use Rattle.tp4_sending.specs.FlowSender.{FlowSender, fresh, block_in}
+use Rattle.tp4_sending.specs.SendingHalf.{FlowSender, fresh, block_in}
 use Rattle.tp4_sending.specs.Kept.{urgent_base}
 use Rattle.tp4_sending.specs.Pieces.{count_in, cut_at}
 use Rattle.tp4_conn.specs.declared.end_record.EndRecord.{EndRecord}

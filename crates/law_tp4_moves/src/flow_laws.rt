@@ -8,7 +8,7 @@ ghost use Rattle.tpdu.specs.Writing.{IsAllowed};
 ghost use Rattle.tp4_number.specs.Formats.{block_of};
 ghost use Rattle.tp4_number.specs.Number.{whole, MaySend};
 ghost use Rattle.tp4_number.specs.Sender.{may_send};
-ghost use Rattle.tp4_sending.specs.FlowSender.{FlowSender, block_in};
+ghost use Rattle.tp4_sending.specs.SendingHalf.{FlowSender, block_in};
 ghost use Rattle.tp4_flow.specs.declared.step.Sent.{Sent};
 ghost use Rattle.tp4_conn.specs.declared.end_record.EndRecord.{EndRecord};
 ghost use Rattle.tp4_conn.specs.declared.call.ConnectCall.{ConnectCall};

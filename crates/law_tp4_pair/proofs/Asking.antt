@@ -2,12 +2,12 @@
 use Rattle.std.proofs.Common.{◌≡◌, ℕ, ◌+◌, ◌-◌, ◌==◌, ◌&&◌, ◌||◌, Bool, true, false, if◌then◌else◌, List, [], ◌∷◌, ◌++◌, length, drop, Option, Some, None, refl, sym, ◌∙◌, ap, subst, arith, inl, inr, append-nil}
 use Rattle.std.specs.Prelude.{is_some}
 use Rattle.std.proofs.lemmas.Bool.{eq-eqb}
-use Rattle.tp4_flow.specs.Half.{Half, Received, is_next, is_before, taken_ed, ea}
+use Rattle.tp4_flow.specs.ReceivingHalf.{Half, Received, is_next, is_before, taken_ed, ea}
 use Rattle.tp4_number.specs.Formats.{block_of}
 use Rattle.tp4_number.specs.Number.{whole, wire}
 use Rattle.tp4_flow.specs.declared.step.What.TheVariants as whats
 use Rattle.tpdu.specs.declared.service.EndTold.TheVariants.{Urgent}
-use Rattle.tp4_sending.specs.FlowSender.{FlowSender, block_in, is_outstanding, urgent_done, new_sends, nothing}
+use Rattle.tp4_sending.specs.SendingHalf.{FlowSender, block_in, is_outstanding, urgent_done, new_sends, nothing}
 use Rattle.tp4_sending.specs.declared.tries.Tries.{Tries}
 use Rattle.tp4_number.specs.declared.piece.Piece.{Piece}
 use Rattle.script_journal.specs.Lawful.{Marked}

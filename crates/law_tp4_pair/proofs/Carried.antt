@@ -8,7 +8,7 @@ use Rattle.std.proofs.lemmas.Bool.{and_parts, or_parts, not-false}
 use Rattle.tpdu.specs.declared.tpdu.Tpdu.{Tpdu}
 use Rattle.tpdu.specs.declared.tpdu.Tpdu.TheVariants.{Dt, Ed}
 use Rattle.script_journal.specs.Lawful.{Marked, Normal, Expedited, expediteds, normals as normal_units}
-use Rattle.tp4_flow.specs.Half.{Half, empty}
+use Rattle.tp4_flow.specs.ReceivingHalf.{Half, empty}
 use Rattle.tp4_flow.specs.Told.{gots}
 use Rattle.tp4_flow.specs.declared.rules.FlowRules.{FlowRules}
 use Rattle.tp4_flow.specs.declared.step.Sent.{Sent}
@@ -17,7 +17,7 @@ use Rattle.tp4_number.specs.Receiver.{Inbox}
 use Rattle.tp4_number.specs.Sender.{Sender}
 use Rattle.tp4_number.specs.Window.{begun_by}
 use Rattle.tp4_number.proofs.Past.{if_kept}
-use Rattle.tp4_sending.specs.FlowSender.{FlowSender, UrgentSender, Sendings, nothing, then_sends, rule_allows, dts, eds, is_noted, sent_urgent, one_urgent, sent_normal, has_next, normals, is_urgent, normals_where, new_sends, at, fresh, opened}
+use Rattle.tp4_sending.specs.SendingHalf.{FlowSender, UrgentSender, Sendings, nothing, then_sends, rule_allows, dts, eds, is_noted, sent_urgent, one_urgent, sent_normal, has_next, normals, is_urgent, normals_where, new_sends, at, fresh, opened}
 use Rattle.tp4_sending.specs.Pieces.{Queue, count_in, cut_at, end_of, once, freed}
 use Rattle.tp4_sending.specs.declared.tries.Tries.{Tries}
 use Rattle.tp4_sending.proofs.Goings.{piece_there}
@@ -25,6 +25,7 @@ use Rattle.law_tp4_moves.specs.Lines.{shown_in}
 use Rattle.law_tp4_moves.proofs.FlowUnits.{cut_behind, freed_front}
 use Rattle.law_tp4_history.specs.Complete.{AllFull, Complete}
 use Rattle.law_tp4_history.proofs.Complete.{complete_more, cut_more, full_more, one_piece, shown_on}
+use Rattle.law_tp4_history.proofs.Marks.{normals-append, expediteds-append}
 use Rattle.law_tp4_pair.specs.steps.Carrying.{AreLeft, ArePieces, Carries, piece_in, pieces_in, unit_in, units_in}
 use Rattle.law_tp4_pair.specs.steps.Flowing.{HasUnit, IsOrdered}
 use Rattle.law_tp4_pair.specs.steps.Waiting.{dt_in, dts_in, ed_in, eds_in, wires}
@@ -231,37 +232,36 @@ freed_carry s t h n pieces units gave showed rules urgent queue c =
       left_are = subst (λ (u : UrgentSender). AreLeft u.out units u.units c.left) (sym urgent) c.left_are;
     }
 
--- the ED that was outstanding is acknowledged
-pub done_carry : (s : FlowSender) (h : Half) (tries : Tries) (pieces : List Piece) (units : List (List ℕ)) (gave showed : List Marked) → s.urgent.out ≡ Some tries → units ≡ []
-    → Carries s h pieces units gave showed → Carries (record s { urgent = record s.urgent { units = drop 1 s.urgent.units; out = None } }) h pieces units gave showed
-done_carry s h tries pieces units gave showed out none c = record {
+-- nothing is submitted, and the queue stays
+kept_carry : {s : FlowSender} {h : Half} {pieces : List Piece} {units : List (List ℕ)} {gave showed : List Marked} (c : Carries s h pieces units gave showed) (t : FlowSender) (k : Half) (later : List Piece)
+    (waiting left : List (List ℕ)) (shows : List Marked) → ArePieces s.rules.piece (normal_units gave) k.receiver.expected later
+    → Complete s.rules.piece (normal_units gave) k.receiver.expected (normal_units shows) k.receiver.inbox.held.begun → expediteds gave ≡ expediteds shows ++ left
+    → AreLeft t.urgent.out waiting t.urgent.units left → Carries (record t { rules = s.rules; queue = s.queue }) k later waiting gave shows
+kept_carry c t k later waiting left shows pieces_are complete expedited left_are = record {
   some = c.some;
   full = c.full;
   acknowledged = c.acknowledged;
   normal = c.normal;
   first = c.first;
-  pieces_are = c.pieces_are;
-  complete = c.complete;
-  left = c.left;
-  expedited = c.expedited;
-  left_are = subst (λ (l : List (List ℕ)). AreLeft (Some tries) l s.urgent.units c.left) none (subst (λ (o : Option Tries). AreLeft o units s.urgent.units c.left) out c.left_are);
+  pieces_are = pieces_are;
+  complete = complete;
+  left = left;
+  expedited = expedited;
+  left_are = left_are;
 }
 
-pub normals_then : (a b : List Marked) → normal_units (a ++ b) ≡ normal_units a ++ normal_units b
-normals_then [] b = refl
-normals_then (Normal unit ∷ a) b = ap (λ (l : List (List ℕ)). unit ∷ l) (normals_then a b)
-normals_then (Expedited unit ∷ a) b = normals_then a b
-
-pub expediteds_then : (a b : List Marked) → expediteds (a ++ b) ≡ expediteds a ++ expediteds b
-expediteds_then [] b = refl
-expediteds_then (Normal unit ∷ a) b = expediteds_then a b
-expediteds_then (Expedited unit ∷ a) b = ap (λ (l : List (List ℕ)). unit ∷ l) (expediteds_then a b)
+-- the ED that was outstanding is acknowledged
+pub done_carry : (s : FlowSender) (h : Half) (tries : Tries) (pieces : List Piece) (units : List (List ℕ)) (gave showed : List Marked) → s.urgent.out ≡ Some tries → units ≡ []
+    → Carries s h pieces units gave showed → Carries (record s { urgent = record s.urgent { units = drop 1 s.urgent.units; out = None } }) h pieces units gave showed
+done_carry s h tries pieces units gave showed out none c =
+    kept_carry c (record s { urgent = record s.urgent { units = drop 1 s.urgent.units; out = None } }) h pieces units c.left showed c.pieces_are c.complete c.expedited
+    (subst (λ (l : List (List ℕ)). AreLeft (Some tries) l s.urgent.units c.left) none (subst (λ (o : Option Tries). AreLeft o units s.urgent.units c.left) out c.left_are))
 
 -- a normal unit is submitted
 pub submit_carry : (s : FlowSender) (h : Half) (pieces : List Piece) (units : List (List ℕ)) (gave showed : List Marked) (unit : List ℕ) → 0 < length unit
     → Carries s h pieces units gave showed → Carries (record s { queue = record s.queue { units = s.queue.units ++ unit ∷ [] } }) h pieces units (gave ++ Normal unit ∷ []) showed
 submit_carry s h pieces units gave showed unit some c =
-    let more : normal_units (gave ++ Normal unit ∷ []) ≡ normal_units gave ++ unit ∷ [] = normals_then gave (Normal unit ∷ []) in
+    let more : normal_units (gave ++ Normal unit ∷ []) ≡ normal_units gave ++ unit ∷ [] = normals-append gave (Normal unit ∷ []) in
     record {
       some = c.some;
       full = subst AllFull (sym more) (full_more (normal_units gave) unit some c.full);
@@ -272,7 +272,7 @@ submit_carry s h pieces units gave showed unit some c =
       complete = subst (λ (l : List (List ℕ)). Complete s.rules.piece l h.receiver.expected (normal_units showed) h.receiver.inbox.held.begun) (sym more)
           (complete_more s.rules.piece (normal_units gave) h.receiver.expected (normal_units showed) h.receiver.inbox.held.begun unit some c.complete);
       left = c.left;
-      expedited = expediteds_then gave (Normal unit ∷ []) ∙ append-nil (expediteds gave) ∙ c.expedited;
+      expedited = expediteds-append gave (Normal unit ∷ []) ∙ append-nil (expediteds gave) ∙ c.expedited;
       left_are = c.left_are;
     }
 
@@ -280,7 +280,7 @@ submit_carry s h pieces units gave showed unit some c =
 pub urge_carry : (s : FlowSender) (h : Half) (pieces : List Piece) (units : List (List ℕ)) (gave showed : List Marked) (unit : List ℕ) → HasUnit s.urgent.units s.urgent.out
     → Carries s h pieces units gave showed → Carries (record s { urgent = record s.urgent { units = s.urgent.units ++ unit ∷ [] } }) h pieces units (gave ++ Expedited unit ∷ []) showed
 urge_carry s h pieces units gave showed unit has c =
-    let same : normal_units (gave ++ Expedited unit ∷ []) ≡ normal_units gave = normals_then gave (Expedited unit ∷ []) ∙ append-nil (normal_units gave) in
+    let same : normal_units (gave ++ Expedited unit ∷ []) ≡ normal_units gave = normals-append gave (Expedited unit ∷ []) ∙ append-nil (normal_units gave) in
     record {
       some = c.some;
       full = subst AllFull (sym same) c.full;
@@ -290,7 +290,7 @@ urge_carry s h pieces units gave showed unit has c =
       pieces_are = subst (λ (l : List (List ℕ)). ArePieces s.rules.piece l h.receiver.expected pieces) (sym same) c.pieces_are;
       complete = subst (λ (l : List (List ℕ)). Complete s.rules.piece l h.receiver.expected (normal_units showed) h.receiver.inbox.held.begun) (sym same) c.complete;
       left = c.left ++ unit ∷ [];
-      expedited = expediteds_then gave (Expedited unit ∷ []) ∙ ap (λ (l : List (List ℕ)). l ++ unit ∷ []) c.expedited ∙ append_assoc (expediteds showed) c.left (unit ∷ []);
+      expedited = expediteds-append gave (Expedited unit ∷ []) ∙ ap (λ (l : List (List ℕ)). l ++ unit ∷ []) c.expedited ∙ append_assoc (expediteds showed) c.left (unit ∷ []);
       left_are = left_more s.urgent.out units s.urgent.units c.left has c.left_are;
     }
   where
@@ -324,21 +324,13 @@ dt_carry s h new piece pieces units shows gave showed expected shows_are begun o
     let octets : List ℕ = h.receiver.inbox.held.begun ++ piece.octets in
     let step = one_piece s.rules.piece c.some (normal_units gave) c.full h.receiver.expected (normal_units showed) h.receiver.inbox.held.begun piece c.complete c.pieces_are.0 in
     let more : normal_units (showed ++ shown_in (gots own shows)) ≡ shown_on piece.last (normal_units showed) octets =
-    normals_then showed (shown_in (gots own shows)) ∙ ap (λ (l : List (List ℕ)). normal_units showed ++ l) (gots_normal own shows ∙ shows_are) ∙ behind piece.last (normal_units showed) octets in
-    record {
-      some = c.some;
-      full = c.full;
-      acknowledged = c.acknowledged;
-      normal = c.normal;
-      first = c.first;
-      pieces_are = subst (λ (n : ℕ). ArePieces s.rules.piece (normal_units gave) n pieces) (sym expected) c.pieces_are.1;
-      complete = subst (λ (n : ℕ). Complete s.rules.piece (normal_units gave) n (normal_units (showed ++ shown_in (gots own shows))) new.receiver.inbox.held.begun) (sym expected)
-          (subst (λ (l : List (List ℕ)). Complete s.rules.piece (normal_units gave) (h.receiver.expected + 1) l new.receiver.inbox.held.begun) (sym more)
-          (subst (Complete s.rules.piece (normal_units gave) (h.receiver.expected + 1) (shown_on piece.last (normal_units showed) octets)) (sym begun) step.0));
-      left = c.left;
-      expedited = c.expedited ∙ ap (λ (l : List (List ℕ)). l ++ c.left) (sym (expediteds_then showed (shown_in (gots own shows)) ∙ ap (λ (l : List (List ℕ)). expediteds showed ++ l) (gots_expedited own shows) ∙ append-nil (expediteds showed)));
-      left_are = c.left_are;
-    }
+    normals-append showed (shown_in (gots own shows)) ∙ ap (λ (l : List (List ℕ)). normal_units showed ++ l) (gots_normal own shows ∙ shows_are) ∙ behind piece.last (normal_units showed) octets in
+    kept_carry c s new pieces units c.left (showed ++ shown_in (gots own shows)) (subst (λ (n : ℕ). ArePieces s.rules.piece (normal_units gave) n pieces) (sym expected) c.pieces_are.1)
+    (subst (λ (n : ℕ). Complete s.rules.piece (normal_units gave) n (normal_units (showed ++ shown_in (gots own shows))) new.receiver.inbox.held.begun) (sym expected)
+    (subst (λ (l : List (List ℕ)). Complete s.rules.piece (normal_units gave) (h.receiver.expected + 1) l new.receiver.inbox.held.begun) (sym more)
+    (subst (Complete s.rules.piece (normal_units gave) (h.receiver.expected + 1) (shown_on piece.last (normal_units showed) octets)) (sym begun) step.0)))
+    (c.expedited ∙ ap (λ (l : List (List ℕ)). l ++ c.left) (sym (expediteds-append showed (shown_in (gots own shows)) ∙ ap (λ (l : List (List ℕ)). expediteds showed ++ l) (gots_expedited own shows) ∙ append-nil (expediteds showed))))
+    c.left_are
   where
     behind : (last : Bool) (shown : List (List ℕ)) (octets : List ℕ) → shown ++ (if last then octets ∷ [] else []) ≡ shown_on last shown octets
     behind true shown octets = refl
@@ -350,54 +342,26 @@ pub ed_carry : (s : FlowSender) (h new : Half) (tries : Tries) (unit : List ℕ)
     → Carries s h pieces (unit ∷ units) gave showed → Carries s new pieces units gave (showed ++ Expedited unit ∷ [])
 ed_carry s h new tries unit pieces units gave showed out none expected inbox c =
     let a : AreLeft (Some tries) (unit ∷ units) s.urgent.units c.left = subst (λ (o : Option Tries). AreLeft o (unit ∷ units) s.urgent.units c.left) out c.left_are in
-    let same : normal_units (showed ++ Expedited unit ∷ []) ≡ normal_units showed = normals_then showed (Expedited unit ∷ []) ∙ append-nil (normal_units showed) in
-    record {
-      some = c.some;
-      full = c.full;
-      acknowledged = c.acknowledged;
-      normal = c.normal;
-      first = c.first;
-      pieces_are = subst (λ (n : ℕ). ArePieces s.rules.piece (normal_units gave) n pieces) (sym expected) c.pieces_are;
-      complete = subst (λ (n : ℕ). Complete s.rules.piece (normal_units gave) n (normal_units (showed ++ Expedited unit ∷ [])) new.receiver.inbox.held.begun) (sym expected)
-          (subst (λ (l : List (List ℕ)). Complete s.rules.piece (normal_units gave) h.receiver.expected l new.receiver.inbox.held.begun) (sym same)
-          (subst (λ (b : Inbox). Complete s.rules.piece (normal_units gave) h.receiver.expected (normal_units showed) b.held.begun) (sym inbox) c.complete));
-      left = drop 1 s.urgent.units;
-      expedited = c.expedited ∙ ap (λ (l : List (List ℕ)). expediteds showed ++ l) (a.0 ∙ a.1) ∙ sym (append_assoc (expediteds showed) (unit ∷ []) (drop 1 s.urgent.units))
-          ∙ ap (λ (l : List (List ℕ)). l ++ drop 1 s.urgent.units) (sym (expediteds_then showed (Expedited unit ∷ [])));
-      left_are = subst (λ (o : Option Tries). AreLeft o units s.urgent.units (drop 1 s.urgent.units)) (sym out)
-          (subst (λ (l : List (List ℕ)). AreLeft (Some tries) l s.urgent.units (drop 1 s.urgent.units)) (sym none) refl);
-    }
+    let same : normal_units (showed ++ Expedited unit ∷ []) ≡ normal_units showed = normals-append showed (Expedited unit ∷ []) ∙ append-nil (normal_units showed) in
+    kept_carry c s new pieces units (drop 1 s.urgent.units) (showed ++ Expedited unit ∷ []) (subst (λ (n : ℕ). ArePieces s.rules.piece (normal_units gave) n pieces) (sym expected) c.pieces_are)
+    (subst (λ (n : ℕ). Complete s.rules.piece (normal_units gave) n (normal_units (showed ++ Expedited unit ∷ [])) new.receiver.inbox.held.begun) (sym expected)
+    (subst (λ (l : List (List ℕ)). Complete s.rules.piece (normal_units gave) h.receiver.expected l new.receiver.inbox.held.begun) (sym same)
+    (subst (λ (b : Inbox). Complete s.rules.piece (normal_units gave) h.receiver.expected (normal_units showed) b.held.begun) (sym inbox) c.complete)))
+    (c.expedited ∙ ap (λ (l : List (List ℕ)). expediteds showed ++ l) (a.0 ∙ a.1) ∙ sym (append_assoc (expediteds showed) (unit ∷ []) (drop 1 s.urgent.units))
+    ∙ ap (λ (l : List (List ℕ)). l ++ drop 1 s.urgent.units) (sym (expediteds-append showed (Expedited unit ∷ []))))
+    (subst (λ (o : Option Tries). AreLeft o units s.urgent.units (drop 1 s.urgent.units)) (sym out)
+    (subst (λ (l : List (List ℕ)). AreLeft (Some tries) l s.urgent.units (drop 1 s.urgent.units)) (sym none) refl))
 
 -- the receiver keeps what it expects and what has begun; the sender what it is
 pub half_carry : (s : FlowSender) (h new : Half) (pieces : List Piece) (units : List (List ℕ)) (gave showed : List Marked) → new.receiver.expected ≡ h.receiver.expected
     → new.receiver.inbox.held.begun ≡ h.receiver.inbox.held.begun → Carries s h pieces units gave showed → Carries s new pieces units gave showed
-half_carry s h new pieces units gave showed expected begun c = record {
-  some = c.some;
-  full = c.full;
-  acknowledged = c.acknowledged;
-  normal = c.normal;
-  first = c.first;
-  pieces_are = subst (λ (n : ℕ). ArePieces s.rules.piece (normal_units gave) n pieces) (sym expected) c.pieces_are;
-  complete = subst (λ (n : ℕ). Complete s.rules.piece (normal_units gave) n (normal_units showed) new.receiver.inbox.held.begun) (sym expected)
-      (subst (Complete s.rules.piece (normal_units gave) h.receiver.expected (normal_units showed)) (sym begun) c.complete);
-  left = c.left;
-  expedited = c.expedited;
-  left_are = c.left_are;
-}
+half_carry s h new pieces units gave showed expected begun c =
+    kept_carry c s new pieces units c.left showed (subst (λ (n : ℕ). ArePieces s.rules.piece (normal_units gave) n pieces) (sym expected) c.pieces_are)
+    (subst (λ (n : ℕ). Complete s.rules.piece (normal_units gave) n (normal_units showed) new.receiver.inbox.held.begun) (sym expected)
+    (subst (Complete s.rules.piece (normal_units gave) h.receiver.expected (normal_units showed)) (sym begun) c.complete)) c.expedited c.left_are
 
 pub carries_at : (now : ℕ) (s : FlowSender) (h : Half) (pieces : List Piece) (units : List (List ℕ)) (gave showed : List Marked) → Carries s h pieces units gave showed → Carries (at now s) h pieces units gave showed
-carries_at now s h pieces units gave showed c = record {
-  some = c.some;
-  full = c.full;
-  acknowledged = c.acknowledged;
-  normal = c.normal;
-  first = c.first;
-  pieces_are = c.pieces_are;
-  complete = c.complete;
-  left = c.left;
-  expedited = c.expedited;
-  left_are = c.left_are;
-}
+carries_at now s h pieces units gave showed c = kept_carry c (at now s) h pieces units c.left showed c.pieces_are c.complete c.expedited c.left_are
 
 -- nothing was submitted
 pub fresh_carries : (rules other : FlowRules) (credit room now : ℕ) → 0 < rules.piece → Carries (opened (at now (fresh rules credit))).sender (empty other room) [] [] [] []

@@ -1,11 +1,11 @@
 -- A tick of Opened ends, where nothing waits: AKs by the window timer, and new sends of what the number rule held back.
 use Rattle.std.proofs.Common.{◌≡◌, ℕ, ◌+◌, nat_le, Bool, true, false, List, [], ◌∷◌, ◌++◌, refl, sym, ◌∙◌, ap, subst, append-nil, inl, inr, ◌⊎◌}
-use Rattle.tp4_flow.specs.Half.{Half, ak}
+use Rattle.tp4_flow.specs.ReceivingHalf.{Half, ak}
 use Rattle.tp4_flow.specs.declared.rules.FlowRules.{FlowRules}
 use Rattle.tp4_flow.specs.declared.rules.Life.{Life}
 use Rattle.tp4_flow.specs.declared.step.Sent.{Sent}
 use Rattle.tp4_number.proofs.Past.{if_kept}
-use Rattle.tp4_sending.specs.FlowSender.{FlowSender, Sendings, at, nothing, ticked}
+use Rattle.tp4_sending.specs.SendingHalf.{FlowSender, Sendings, at, nothing, ticked}
 use Rattle.tp4_conn.specs.declared.end_record.EndRecord.{EndRecord}
 use Rattle.tp4_conn.specs.declared.halves.Halves.{Halves}
 use Rattle.tp4_conn.specs.declared.states.InOpened.{InOpened}

@@ -2,7 +2,7 @@
 -- AK. Nothing was submitted, so nothing else is sent.
 use Rattle.std.proofs.Common.{Option, ◌≡◌, ℕ, ◌+◌, ◌-◌, ◌/◌, ◌%◌, ◌==◌, ◌&&◌, not, Bool, true, false, if◌then◌else◌, List, [], ◌∷◌, ◌++◌, Some, refl, sym, ◌∙◌, ap, subst, arith}
 use Rattle.std.specs.List.{list_any}
-use Rattle.tp4_flow.specs.Half.{Half, ak, empty}
+use Rattle.tp4_flow.specs.ReceivingHalf.{Half, ak, empty}
 use Rattle.tp4_flow.specs.declared.rules.FlowRules.{FlowRules}
 use Rattle.tpdu.specs.declared.service.Options.{Options}
 use Rattle.tpdu.specs.declared.service.GoneCause.TheVariants.{Protocol}
@@ -10,7 +10,7 @@ use Rattle.tp4_flow.specs.declared.step.Sent.{Sent}
 use Rattle.tp4_flow.specs.declared.step.What.TheVariants as whats
 use Rattle.tpdu.specs.declared.service.EndTold.TheVariants.{Accept as Accept_told}
 use Rattle.tp4_number.specs.Number.{near, whole}
-use Rattle.tp4_sending.specs.FlowSender.{FlowSender, acknowledged, acknowledged_to, at, block_in, fresh, is_taken, new_sends, normals, nothing, opened}
+use Rattle.tp4_sending.specs.SendingHalf.{FlowSender, acknowledged, acknowledged_to, at, block_in, fresh, is_taken, new_sends, normals, nothing, opened}
 use Rattle.tp4_sending.specs.Pieces.{once}
 use Rattle.tp4_conn.specs.declared.end_record.EndRecord.{EndRecord}
 use Rattle.tp4_conn.specs.declared.halves.Halves.{Halves}

@@ -1,14 +1,14 @@
 -- After its new sends a sender that is level with its receiver is calm: the DTs join those that wait, below the edge, which the receiver's credit
 -- allows; the ED is the next one expected.
 use Rattle.std.proofs.Common.{◌≡◌, ℕ, ◌+◌, ◌≤◌, List, [], ◌∷◌, ◌++◌, Option, Some, None, sym, ◌∙◌, ap, subst, arith, append-nil, inl, inr}
-use Rattle.tp4_flow.specs.Half.{Half}
+use Rattle.tp4_flow.specs.ReceivingHalf.{Half}
 use Rattle.tp4_flow.specs.declared.rules.FlowRules.{FlowRules}
 use Rattle.tp4_number.specs.Formats.{block_of}
-use Rattle.tp4_sending.specs.FlowSender.{FlowSender, UrgentSender, Sendings, at, block_in}
+use Rattle.tp4_sending.specs.SendingHalf.{FlowSender, UrgentSender, Sendings, at, block_in}
 use Rattle.tp4_sending.specs.Settled.{IsSettled}
 use Rattle.tp4_sending.specs.declared.tries.Tries.{Tries}
 use Rattle.law_tp4_pair.specs.steps.Waiting.{View, dts_in, eds_in, wires, views}
-use Rattle.law_tp4_pair.specs.steps.Flowing.{known, said, LeadsTo, IsQuiet, IsAnswering, Flows, IsLevel, IsCalm}
+use Rattle.law_tp4_pair.specs.steps.Flowing.{IsOrdered, known, said, LeadsTo, IsQuiet, IsAnswering, Flows, IsLevel, IsCalm}
 use Rattle.law_tp4_pair.proofs.Sends.{Asks, Still, New, SendsNew}
 use Rattle.law_tp4_pair.proofs.Wires.{wires_then, leads_low}
 
@@ -72,14 +72,16 @@ after_sends s h dts eds aks eas x g settled f level =
         ∙ sym (wires_then (block_in s) h.receiver.expected count g.count)
         ∙ ap (λ (r : FlowRules). wires (block_of r.format) h.receiver.expected (count + g.count)) (sym g.rules)
 
--- a later clock changes nothing
-pub flows_at : (now : ℕ) (s : FlowSender) (h : Half) (dts eds : List ℕ) (aks : List View) (eas : List ℕ) → Flows s h dts eds aks eas → Flows (at now s) h dts eds aks eas
-flows_at now s h dts eds aks eas f =
-    let o = f.ordered in
+-- numbers, terms and what is under way are those of s
+abbrev pub flow_of : FlowSender → FlowSender → FlowSender
+flow_of s t = record t { rules = s.rules; numbers = s.numbers; urgent = record t.urgent { next = s.urgent.next; out = s.urgent.out } }
+
+abbrev pub flows_as : {s : FlowSender} {h : Half} {dts eds : List ℕ} {aks : List View} {eas : List ℕ} (f : Flows s h dts eds aks eas) (t : FlowSender) → IsOrdered (flow_of s t) → Flows (flow_of s t) h dts eds aks eas
+flows_as f t ordered =
     let p = f.pending in
     record {
       format = f.format;
-      ordered = record { is_open = o.is_open; first = o.first; window = o.window; high = o.high; edge = o.edge; unit = o.unit };
+      ordered = ordered;
       in_order = f.in_order;
       pending = record { count = p.count; next = p.next; dts_are = p.dts_are; within = p.within };
       waiting = f.waiting;
@@ -87,6 +89,11 @@ flows_at now s h dts eds aks eas f =
       view = f.view;
       answering = f.answering;
     }
+
+-- a later clock changes nothing
+pub flows_at : (now : ℕ) (s : FlowSender) (h : Half) (dts eds : List ℕ) (aks : List View) (eas : List ℕ) → Flows s h dts eds aks eas → Flows (at now s) h dts eds aks eas
+flows_at now s h dts eds aks eas f =
+    let o = f.ordered in flows_as f (at now s) (record { is_open = o.is_open; first = o.first; window = o.window; high = o.high; edge = o.edge; unit = o.unit })
 
 pub calm_at : (now : ℕ) (s : FlowSender) (h : Half) (dts eds : List ℕ) (aks : List View) (eas : List ℕ) → IsCalm s h dts eds aks eas → IsCalm (at now s) h dts eds aks eas
 unfolding flows_at

@@ -1,12 +1,12 @@
 -- A new credit, where nothing waits, and an AK that repeats what was said.
 use Rattle.std.proofs.Common.{◌≡◌, ℕ, zero, suc, ◌+◌, ◌<◌, ◌≤◌, ◌==◌, nat_lt, List, [], ◌∷◌, ◌++◌, Option, Some, None, refl, sym, ◌∙◌, ap, subst, arith, inl, inr}
 use Rattle.std.proofs.lemmas.Bool.{ltb-true, ltb-false}
-use Rattle.tp4_flow.specs.Half.{Half, half_granted, allowed, ak}
+use Rattle.tp4_flow.specs.ReceivingHalf.{Half, half_granted, allowed, ak}
 use Rattle.tp4_number.specs.Formats.{block_of, most_of}
 use Rattle.tp4_number.specs.Number.{wire}
 use Rattle.tp4_number.specs.Receiver.{Inbox, granted}
 use Rattle.tp4_number.proofs.Past.{if_kept}
-use Rattle.tp4_sending.specs.FlowSender.{FlowSender, block_in}
+use Rattle.tp4_sending.specs.SendingHalf.{FlowSender, block_in}
 use Rattle.tp4_sending.specs.declared.tries.Tries.{Tries}
 use Rattle.law_tp4_pair.specs.steps.Waiting.{View, aks_in, wires, views}
 use Rattle.law_tp4_pair.specs.steps.Flowing.{known, said, IsNoOlder, Further, Later, Wider, LeadsTo, IsAnswering, IsCalm}

@@ -3,14 +3,14 @@ use Rattle.std.proofs.Common.{◌≡◌, ℕ, Bool, true, false, ◌&&◌, not, 
 use Rattle.tpdu.specs.declared.tpdu.Format.{Format}
 use Rattle.tpdu.specs.declared.tpdu.Tpdu.{Tpdu}
 use Rattle.tpdu.specs.declared.tpdu.Tpdu.TheVariants.{Dt, Ed, Ak, Ea}
-use Rattle.tp4_flow.specs.Half.{Received, dt_arrival, taken_dt, taken_ed}
+use Rattle.tp4_flow.specs.ReceivingHalf.{Received, dt_arrival, taken_dt, taken_ed}
 use Rattle.tpdu.specs.declared.service.Options.{Options}
 use Rattle.tp4_flow.specs.declared.step.Sent.{Sent}
 use Rattle.tp4_number.specs.declared.got.Got.{Got}
 use Rattle.tp4_number.specs.declared.got.Got.TheVariants.{Kept, Old, Outside, TooLarge}
 use Rattle.tp4_number.specs.declared.piece.Piece.{Piece}
 use Rattle.tp4_number.specs.Number.{whole}
-use Rattle.tp4_sending.specs.FlowSender.{Sendings, at, acknowledged, urgent_done}
+use Rattle.tp4_sending.specs.SendingHalf.{Sendings, at, acknowledged, urgent_done}
 use Rattle.tp4_conn.specs.declared.end_record.EndRecord.{EndRecord}
 use Rattle.tp4_conn.specs.declared.halves.Halves.{Halves}
 use Rattle.tp4_conn.specs.declared.states.InOpened.{InOpened}
@@ -39,13 +39,13 @@ has_sum options agreed sum a e = ap (λ (o : Option Options). sum_agreed o && no
     never true = refl
     never false = refl
 
-kept_fits : Kept ≡ TooLarge → ⊥
+pub kept_fits : Kept ≡ TooLarge → ⊥
 kept_fits e = cc e
 
-old_fits : Old ≡ TooLarge → ⊥
+pub old_fits : Old ≡ TooLarge → ⊥
 old_fits e = cc e
 
-outside_fits : Outside ≡ TooLarge → ⊥
+pub outside_fits : Outside ≡ TooLarge → ⊥
 outside_fits e = cc e
 
 -- nothing is submitted

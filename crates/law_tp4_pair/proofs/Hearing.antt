@@ -2,14 +2,14 @@
 use Rattle.std.proofs.Common.{◌≡◌, ℕ, ◌+◌, ◌-◌, ◌≤◌, ◌==◌, ◌&&◌, nat_lt, nat_le, Bool, true, false, if◌then◌else◌, min, max, List, [], ◌∷◌, ◌++◌, length, drop, length-drop, Option, None, refl, sym, ◌∙◌, ap, subst, arith, inl, inr, ◌⊎◌, append-nil}
 use Rattle.std.proofs.lemmas.Bool.{le-leb, lt-ltb, eq-eqb, or_parts, ltb-false, true≢false, false≢true}
 use Rattle.std.proofs.lemmas.List.{length-take}
-use Rattle.tp4_flow.specs.Half.{Half}
+use Rattle.tp4_flow.specs.ReceivingHalf.{Half}
 use Rattle.tp4_flow.specs.declared.rules.FlowRules.{FlowRules}
 use Rattle.tp4_number.specs.Formats.{most_of}
 use Rattle.tp4_number.specs.Number.{wire, near}
 use Rattle.tp4_number.specs.Sender.{is_newer}
 use Rattle.tp4_number.proofs.Numbers.{near_is}
 use Rattle.tp4_number.proofs.Past.{if_kept}
-use Rattle.tp4_sending.specs.FlowSender.{FlowSender, Sendings, at, nothing, block_in, new_sends, is_taken, acknowledged, acknowledged_to}
+use Rattle.tp4_sending.specs.SendingHalf.{FlowSender, Sendings, at, nothing, block_in, new_sends, is_taken, acknowledged, acknowledged_to}
 use Rattle.tp4_sending.specs.Settled.{IsSettled}
 use Rattle.tp4_sending.specs.declared.tries.Tries.{Tries}
 use Rattle.tp4_sending.proofs.Advances.{advanced, advanced_is}

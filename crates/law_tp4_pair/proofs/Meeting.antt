@@ -5,7 +5,7 @@ use Rattle.std.specs.Cmp.Lexicographic.{pointwise}
 use Rattle.std.proofs.lemmas.Bool.{eq-eqb}
 use Rattle.tpdu.specs.declared.tpdu.Tpdu.{Tpdu}
 use Rattle.tpdu.specs.declared.tpdu.Tpdu.TheVariants.{Dt, Ed, Ak, Ea}
-use Rattle.tp4_flow.specs.Half.{ak}
+use Rattle.tp4_flow.specs.ReceivingHalf.{ak}
 use Rattle.tp4_flow.specs.declared.step.Sent.{Sent}
 use Rattle.tp4_number.specs.Number.{whole}
 use Rattle.tp4_conn.specs.declared.end_record.EndRecord.{EndRecord}

@@ -1,6 +1,6 @@
 -- Whatever happens to a pair in order, it stands. What comes to the calling end is what comes to the called one, turned.
 use Rattle.std.proofs.Common.{◌≡◌, ℕ, ◌+◌, Bool, true, false, List, [], ◌∷◌, ◌++◌, None, refl, sym, ◌∙◌, ap, subst, inl, inr, ◌⊎◌}
-use Rattle.tp4_flow.specs.Half.{ak}
+use Rattle.tp4_flow.specs.ReceivingHalf.{ak}
 use Rattle.tp4_flow.specs.declared.step.Sent.{Sent}
 use Rattle.tp4_number.specs.Number.{whole}
 use Rattle.tp4_conn.specs.declared.call.UserCall.{UserCall}
@@ -27,7 +27,7 @@ use Rattle.law_tp4_pair.proofs.Users.{asked}
 
 -- ---- where one has left
 
-tick_left : (ticks : Bool) (now : ℕ) (e : End) → HasLeft e.stage → HasLeft (tick_of ticks now e).stage
+pub tick_left : (ticks : Bool) (now : ℕ) (e : End) → HasLeft e.stage → HasLeft (tick_of ticks now e).stage
 tick_left true now e left = stays_left now e Ticked left
 tick_left false now e left = left
 

@@ -1,13 +1,12 @@
 -- Where nothing waits, what is next waits for credit or for the number rule; and how a pair comes to stand.
-use Rattle.std.proofs.Common.{◌≡◌, ℕ, suc, ◌+◌, ◌-◌, ◌*◌, ◌/◌, ◌%◌, min, append-nil, ◌<◌, ◌≤◌, ◌&&◌, ◌||◌, ◌==◌, not, nat_lt, Bool, true, false, List, [], ◌∷◌, ◌++◌, length, Option, Some, None, refl, sym, ◌∙◌, ap, subst, arith, inl, inr, ◌⊎◌}
+use Rattle.std.proofs.Common.{◌≡◌, ℕ, suc, ◌+◌, ◌-◌, append-nil, ◌<◌, ◌≤◌, ◌&&◌, ◌||◌, ◌==◌, not, nat_lt, Bool, true, false, List, [], ◌∷◌, ◌++◌, length, Option, Some, None, refl, sym, ◌∙◌, ap, subst, arith, inl, inr, ◌⊎◌}
 use Rattle.std.specs.Prelude.{is_some}
 use Rattle.std.specs.List.{sum_by}
-use Rattle.std.proofs.Math.Nat.{suc-mul, mul-le-mul_right}
 use Rattle.std.proofs.lemmas.List.Sums.{sum_by-append, sum_by-cons}
-use Rattle.std.proofs.lemmas.Bool.{cases_eq, cases_lt, ltb-false, eqb-true}
-use Rattle.tp4_flow.specs.Half.{Half}
+use Rattle.std.proofs.lemmas.Bool.{ltb-false, eqb-true}
+use Rattle.tp4_flow.specs.ReceivingHalf.{Half}
 use Rattle.tpdu.specs.declared.service.Options.{Options}
-use Rattle.tp4_sending.specs.FlowSender.{FlowSender}
+use Rattle.tp4_sending.specs.SendingHalf.{FlowSender}
 use Rattle.tp4_sending.specs.Pieces.{count_in, end_of}
 use Rattle.tp4_sending.specs.Settled.{IsSettled, waits_normal}
 use Rattle.tp4_sending.specs.declared.tries.Tries.{Tries}
@@ -27,6 +26,7 @@ use Rattle.tp4_conn.specs.Table.{Called, at, on_call}
 use Rattle.tp4_conn.specs.UserWait.{user_wait_accept}
 use Rattle.script_journal.specs.Lawful.{expediteds, normals}
 use Rattle.law_tp4_history.specs.Complete.{Complete}
+use Rattle.law_tp4_history.proofs.Complete.{one_more}
 use Rattle.law_tp4_pair.specs.steps.Carrying.{AreLeft, Carries}
 use Rattle.law_tp4_pair.specs.steps.Flowing.{IsCalm}
 use Rattle.law_tp4_pair.specs.Pair.{Accepts, Account, Asks_called, IsIdle, IsNew, Pair, back_units, forth_units, next}
@@ -59,47 +59,34 @@ normal_left s h is_open settled none edge at = by (nat_lt s.numbers.next (s.numb
     by false v e f = By_credit (omega (arith, ltb-false _ _ e, edge, at))
     by true false e f = All (omega (arith, ltb-false _ _ f, at))
 
-pub rests : (s : FlowSender) (h : Half) → IsCalm s h [] [] [] [] → IsAtRest s h
-rests s h c =
-    let r = at_rest s h c in
-    let is_open : s.is_open ≡ true = c.flows.ordered.is_open in
-    let expedited = expedited_left s s.urgent.units (λ waits. record { is_open = is_open; waits = waits; held = c.settled.urgent waits }) r.out in
+-- at rest by its numbers, where all that may go went
+pub level_rests : (s : FlowSender) (h : Half) → s.is_open ≡ true → IsSettled s → s.numbers.base ≡ h.receiver.expected → s.numbers.next ≡ h.receiver.expected → s.numbers.credit ≡ h.receiver.inbox.credit
+    → s.urgent.out ≡ None → s.urgent.next ≡ h.receiver.urgent → IsAtRest s h
+level_rests s h is_open settled base next credit out urgent =
+    let expedited = expedited_left s s.urgent.units (λ waits. record { is_open = is_open; waits = waits; held = settled.urgent waits }) out in
     record {
-      base = r.base;
-      next = r.next;
-      credit = r.credit;
-      out = r.out;
-      urgent = sym r.urgent;
+      base = base;
+      next = next;
+      credit = credit;
+      out = out;
+      urgent = urgent;
       expedited = expedited;
       normal = elim expedited [
-        | inl none ↦ normal_left s h is_open c.settled none (omega (arith, r.base, r.credit)) r.next
+        | inl none ↦ normal_left s h is_open settled none (omega (arith, base, credit)) next
         | inr held ↦ By_ed held
       ];
     }
 
--- ---- units
+pub rests : (s : FlowSender) (h : Half) → IsCalm s h [] [] [] [] → IsAtRest s h
+rests s h c = let r = at_rest s h c in level_rests s h c.flows.ordered.is_open c.settled r.base r.next r.credit r.out (sym r.urgent)
 
--- a unit has a piece for each `size` of its octets, and for the rest
-one_more : (size len n : ℕ) → 0 < size → n * size < len → n < len / size + min 1 (len % size)
-one_more size len n some h =
-    let whole : len / size * size + len % size ≡ len = omega arith in
-    let rest : len % size < size = omega arith in
-    elim (cases_lt n (len / size)) [
-      | inl below ↦ omega (arith, below)
-      | inr above ↦ elim (cases_eq n (len / size)) [
-        | inl same ↦ (let more : n * size ≡ len / size * size = ap (λ (k : ℕ). k * size) same in omega (arith, same, h, whole, more))
-        | inr other ↦
-            (let up : suc (len / size) ≤ n = omega (arith, above, other) in
-            let more : suc (len / size) * size ≤ n * size = mul-le-mul_right size up in
-            absurd (omega (arith, more, suc-mul (len / size) size, h, whole, rest)))
-      ]
-    ]
+-- ---- units
 
 -- where all pieces were joined all units are shown
 all_shown : (size : ℕ) → 0 < size → (units : List (List ℕ)) (n : ℕ) (shown : List (List ℕ)) (begun : List ℕ) → Complete size units n shown begun → sum_by (count_in size) units ≤ n → shown ≡ units
 all_shown size some [] n [] begun c low = refl
 all_shown size some [] n (s ∷ shown) begun c low = absurd c
-all_shown size some (unit ∷ units) n [] begun c low = absurd (omega (arith, one_more size (length unit) n some c.0, low, sum_by-cons (count_in size) unit units))
+all_shown size some (unit ∷ units) n [] begun c low = absurd (omega (arith, one_more size (length unit) some n c.0, low, sum_by-cons (count_in size) unit units))
 all_shown size some (unit ∷ units) n (s ∷ shown) begun c low =
     let rest : shown ≡ units = all_shown size some units (n - count_in size unit) shown begun c.2 (omega (arith, low, c.1, sum_by-cons (count_in size) unit units)) in
     λ i. c.0 i ∷ rest i

@@ -1,29 +1,32 @@
 -- The new sends: an ED where none is outstanding, then DTs that follow one another up to the edge of the window. All else stays.
-use Rattle.std.proofs.Common.{◌≡◌, ℕ, zero, suc, ◌+◌, ◌-◌, ◌<◌, ◌≤◌, ◌==◌, ◌||◌, nat_lt, Bool, true, false, max, if◌then◌else◌, List, [], ◌∷◌, ◌++◌, length, Option, Some, None, refl, sym, ◌∙◌, ap, subst, arith, append-nil, length-append}
+use Rattle.std.proofs.Common.{◌≡◌, ℕ, zero, suc, ◌+◌, ◌-◌, ◌<◌, ◌≤◌, ◌==◌, ◌||◌, nat_lt, Bool, true, false, if◌then◌else◌, List, [], ◌∷◌, ◌++◌, length, Option, Some, None, refl, sym, ◌∙◌, ap, subst, arith, append-nil, length-append}
 use Rattle.std.specs.Prelude.{not, is_some}
 use Rattle.std.proofs.lemmas.Bool.{and_parts, or_parts, ltb-true, not-false}
+use Rattle.tpdu.specs.declared.service.HeldKind.TheVariants.{Dt, Ed}
 use Rattle.tp4_flow.specs.declared.rules.FlowRules.{FlowRules}
+use Rattle.tp4_flow.specs.declared.step.EndEvent.{EndEvent}
 use Rattle.tp4_flow.specs.declared.step.Sent.{Sent}
-use Rattle.tp4_number.specs.declared.blocks.Blocks.{Blocks}
 use Rattle.tp4_number.specs.declared.piece.Piece.{Piece}
 use Rattle.tp4_number.specs.Formats.{block_of}
 use Rattle.tp4_number.specs.Number.{wire}
-use Rattle.tp4_number.specs.Sender.{Sender, marked}
+use Rattle.tp4_number.specs.Sender.{Sender}
+use Rattle.tp4_number.proofs.Accounts.{marked_high}
 use Rattle.tp4_number.proofs.Past.{if_kept}
-use Rattle.tp4_sending.specs.FlowSender.{FlowSender, UrgentSender, Sendings, nothing, before, then_sends, block_in, rule_allows, dts, dts_of, eds, is_noted, sent_urgent, one_urgent, held_urgent, sent_normal, held_normal, has_next, normals, is_urgent, normals_where, new_sends}
+use Rattle.tp4_sending.specs.SendingHalf.{FlowSender, UrgentSender, Sendings, nothing, before, then_sends, block_in, rule_allows, dts, dts_of, eds, is_noted, holds, sent_urgent, one_urgent, held_urgent, sent_normal, held_normal, has_next, normals, is_urgent, normals_where, new_sends}
 use Rattle.tp4_sending.specs.Pieces.{cut_at, end_of, once}
 use Rattle.tp4_sending.specs.declared.tries.Tries.{Tries}
 use Rattle.tp4_sending.proofs.Goings.{piece_there}
 use Rattle.script_journal.specs.Lawful.{Marked}
+use Rattle.law_tp4_moves.proofs.FlowOut.{shown-append}
 use Rattle.law_tp4_moves.specs.Lines.{shown_in}
 use Rattle.law_tp4_pair.specs.steps.Waiting.{AreData, View, dts_in, eds_in, aks_in, eas_in, wires}
 use Rattle.law_tp4_pair.specs.steps.Flowing.{IsOrdered}
-use Rattle.law_tp4_pair.proofs.Wires.{dts_then, eds_then, aks_then, eas_then, data_then, shown_then}
+use Rattle.law_tp4_pair.proofs.Wires.{dts_then, eds_then, aks_then, eas_then, data_then}
 
 -- ---- DTs
 
--- the DTs that went follow one another; numbers grow, all else stays
-pub record SendsDts (s : FlowSender) (x : Sendings) : Type 0 where
+-- the next number grows, and all else of numbers, terms and units stays
+pub record IsOnward (s : FlowSender) (x : Sendings) : Type 0 where
   pub count : ℕ
   pub next : x.sender.numbers.next ≡ s.numbers.next + count
   pub base : x.sender.numbers.base ≡ s.numbers.base
@@ -31,6 +34,11 @@ pub record SendsDts (s : FlowSender) (x : Sendings) : Type 0 where
   pub subsequence : x.sender.numbers.subsequence ≡ s.numbers.subsequence
   pub rules : x.sender.rules ≡ s.rules
   pub queue : x.sender.queue ≡ s.queue
+
+-- the DTs that went follow one another; numbers grow, all else stays
+pub record SendsDts (s : FlowSender) (x : Sendings) : Type 0 where
+  pub onward : IsOnward s x
+  pub open onward use *
   pub urgent : x.sender.urgent ≡ s.urgent
   pub ordered : IsOrdered x.sender
   pub dts : dts_in x.tpdus ≡ wires (block_in s) s.numbers.next count
@@ -40,51 +48,25 @@ pub record SendsDts (s : FlowSender) (x : Sendings) : Type 0 where
   pub data_are : AreData s.rules x.tpdus
   pub quiet : shown_in x.events ≡ []
 
-dts_none : (s : FlowSender) → IsOrdered s → SendsDts s (nothing s)
-dts_none s o = record {
-  count = 0;
-  next = omega arith;
-  base = refl;
-  credit = refl;
-  subsequence = refl;
-  rules = refl;
-  queue = refl;
+-- none goes; that one waits may be noted
+dts_quiet : (s : FlowSender) (noted : Option ℕ) (events : List EndEvent) → shown_in events ≡ [] → IsOrdered s → SendsDts s (record { sender = record s { noted = noted }; events = events; tpdus = [] })
+dts_quiet s noted events quiet o = record {
+  onward = record { count = 0; next = omega arith; base = refl; credit = refl; subsequence = refl; rules = refl; queue = refl };
   urgent = refl;
-  ordered = o;
+  ordered = record { is_open = o.is_open; first = o.first; window = o.window; high = o.high; edge = o.edge; unit = o.unit };
   dts = refl;
   eds = refl;
   aks = refl;
   eas = refl;
   data_are = tt;
-  quiet = refl;
+  quiet = quiet;
 }
 
-noted_ordered : (s : FlowSender) (n : ℕ) → IsOrdered s → IsOrdered (record s { noted = Some n })
-noted_ordered s n o = record { is_open = o.is_open; first = o.first; window = o.window; high = o.high; edge = o.edge; unit = o.unit }
+dts_none : (s : FlowSender) → IsOrdered s → SendsDts s (nothing s)
+dts_none s o = dts_quiet s s.noted [] refl o
 
 dts_held : (s : FlowSender) → IsOrdered s → SendsDts s (held_normal s)
-dts_held s o = if_kept (SendsDts s) (is_noted s.noted s.numbers.next) _ _ (λ _. dts_none s o) (λ _. record {
-  count = 0;
-  next = omega arith;
-  base = refl;
-  credit = refl;
-  subsequence = refl;
-  rules = refl;
-  queue = refl;
-  urgent = refl;
-  ordered = noted_ordered s s.numbers.next o;
-  dts = refl;
-  eds = refl;
-  aks = refl;
-  eas = refl;
-  data_are = tt;
-  quiet = refl;
-})
-
-marked_high : (block : ℕ) (b : Blocks) (n now : ℕ) → (marked block b n now).high ≡ max b.high (n + 1)
-marked_high block b n now =
-    if_kept (λ (x : Blocks). x.high ≡ max b.high (n + 1)) (nat_lt n b.first) _ _ (λ _. refl)
-    (λ _. if_kept (λ (x : Blocks). x.high ≡ max b.high (n + 1)) (nat_lt n (b.first + block)) _ _ (λ _. refl) (λ _. refl))
+dts_held s o = if_kept (SendsDts s) (is_noted s.noted s.numbers.next) _ _ (λ _. dts_none s o) (λ _. dts_quiet s (Some s.numbers.next) (holds s Dt s.numbers.next ∷ []) refl o)
 
 sent_ordered : (s : FlowSender) → IsOrdered s → s.numbers.next < s.numbers.base + s.numbers.credit → IsOrdered (sent_normal s)
 sent_ordered s o below = record {
@@ -117,13 +99,7 @@ next_dt s o below is =
 -- one more DT before
 dts_before : (s : FlowSender) (tpdus : List Sent) (x : Sendings) → IsOneDt s s.numbers.next tpdus → SendsDts (sent_normal s) x → SendsDts s (before tpdus x)
 dts_before s tpdus x one g = record {
-  count = suc g.count;
-  next = omega (arith, g.next);
-  base = g.base;
-  credit = g.credit;
-  subsequence = g.subsequence;
-  rules = g.rules;
-  queue = g.queue;
+  onward = record { count = suc g.count; next = omega (arith, g.next); base = g.base; credit = g.credit; subsequence = g.subsequence; rules = g.rules; queue = g.queue };
   urgent = g.urgent;
   ordered = g.ordered;
   dts = dts_then tpdus x.tpdus ∙ ap (λ (l : List ℕ). l ++ dts_in x.tpdus) one.dts ∙ ap (λ (l : List ℕ). wire (block_in s) s.numbers.next ∷ l) g.dts;
@@ -169,11 +145,9 @@ pub record SendsEd (s : FlowSender) (x : Sendings) : Type 0 where
   pub data_are : AreData s.rules x.tpdus
   pub quiet : shown_in x.events ≡ []
 
-ed_none : (s : FlowSender) → IsOrdered s → SendsEd s (nothing s)
-ed_none s o = record { numbers = refl; rules = refl; queue = refl; units = refl; ordered = o; dts = refl; asks = Still refl refl refl; aks = refl; eas = refl; data_are = tt; quiet = refl }
-
-ed_held : (s : FlowSender) → IsOrdered s → SendsEd s (held_urgent s)
-ed_held s o = if_kept (SendsEd s) (is_noted s.urgent.noted s.urgent.next) _ _ (λ _. ed_none s o) (λ _. record {
+-- none goes; that one waits may be noted
+ed_quiet : (s : FlowSender) (noted : Option ℕ) (events : List EndEvent) → shown_in events ≡ [] → IsOrdered s → SendsEd s (record { sender = record s { urgent = record s.urgent { noted = noted } }; events = events; tpdus = [] })
+ed_quiet s noted events quiet o = record {
   numbers = refl;
   rules = refl;
   queue = refl;
@@ -184,8 +158,14 @@ ed_held s o = if_kept (SendsEd s) (is_noted s.urgent.noted s.urgent.next) _ _ (�
   aks = refl;
   eas = refl;
   data_are = tt;
-  quiet = refl;
-})
+  quiet = quiet;
+}
+
+ed_none : (s : FlowSender) → IsOrdered s → SendsEd s (nothing s)
+ed_none s o = ed_quiet s s.urgent.noted [] refl o
+
+ed_held : (s : FlowSender) → IsOrdered s → SendsEd s (held_urgent s)
+ed_held s o = if_kept (SendsEd s) (is_noted s.urgent.noted s.urgent.next) _ _ (λ _. ed_none s o) (λ _. ed_quiet s (Some s.urgent.next) (holds s Ed s.urgent.next ∷ []) refl o)
 
 ed_goes : (s : FlowSender) (units : List (List ℕ)) → IsOrdered s → s.urgent.units ≡ units → (length units == 0) ≡ false → s.urgent.out ≡ None
     → SendsEd s (record { sender = sent_urgent s; events = []; tpdus = eds s s.urgent.next units })
@@ -221,13 +201,8 @@ urgent_sends s o =
 -- ---- both
 
 pub record SendsNew (s : FlowSender) (x : Sendings) : Type 0 where
-  pub count : ℕ
-  pub next : x.sender.numbers.next ≡ s.numbers.next + count
-  pub base : x.sender.numbers.base ≡ s.numbers.base
-  pub credit : x.sender.numbers.credit ≡ s.numbers.credit
-  pub subsequence : x.sender.numbers.subsequence ≡ s.numbers.subsequence
-  pub rules : x.sender.rules ≡ s.rules
-  pub queue : x.sender.queue ≡ s.queue
+  pub onward : IsOnward s x
+  pub open onward use *
   pub units : x.sender.urgent.units ≡ s.urgent.units
   pub ordered : IsOrdered x.sender
   pub dts : dts_in x.tpdus ≡ wires (block_in s) s.numbers.next count
@@ -241,13 +216,15 @@ both_send : (s : FlowSender) (x : Sendings) (next : FlowSender → Sendings) →
 both_send s x next a b =
     let y : Sendings = next x.sender in
     record {
-      count = b.count;
-      next = b.next ∙ ap (λ (n : Sender). n.next + b.count) a.numbers;
-      base = b.base ∙ ap (λ (n : Sender). n.base) a.numbers;
-      credit = b.credit ∙ ap (λ (n : Sender). n.credit) a.numbers;
-      subsequence = b.subsequence ∙ ap (λ (n : Sender). n.subsequence) a.numbers;
-      rules = b.rules ∙ a.rules;
-      queue = b.queue ∙ a.queue;
+      onward = record {
+        count = b.count;
+        next = b.next ∙ ap (λ (n : Sender). n.next + b.count) a.numbers;
+        base = b.base ∙ ap (λ (n : Sender). n.base) a.numbers;
+        credit = b.credit ∙ ap (λ (n : Sender). n.credit) a.numbers;
+        subsequence = b.subsequence ∙ ap (λ (n : Sender). n.subsequence) a.numbers;
+        rules = b.rules ∙ a.rules;
+        queue = b.queue ∙ a.queue;
+      };
       units = ap (λ (u : UrgentSender). u.units) b.urgent ∙ a.units;
       ordered = b.ordered;
       dts = dts_then x.tpdus y.tpdus ∙ ap (λ (l : List ℕ). l ++ dts_in y.tpdus) a.dts ∙ b.dts ∙ same b.count;
@@ -256,7 +233,7 @@ both_send s x next a b =
       aks = aks_then x.tpdus y.tpdus ∙ ap (λ (l : List View). l ++ aks_in y.tpdus) a.aks ∙ b.aks;
       eas = eas_then x.tpdus y.tpdus ∙ ap (λ (l : List ℕ). l ++ eas_in y.tpdus) a.eas ∙ b.eas;
       data_are = data_then s.rules x.tpdus y.tpdus a.data_are (subst (λ (r : FlowRules). AreData r y.tpdus) a.rules b.data_are);
-      quiet = shown_then x.events y.events ∙ ap (λ (l : List Marked). l ++ shown_in y.events) a.quiet ∙ b.quiet;
+      quiet = shown-append x.events y.events ∙ ap (λ (l : List Marked). l ++ shown_in y.events) a.quiet ∙ b.quiet;
     }
   where
     same : (count : ℕ) → wires (block_in x.sender) x.sender.numbers.next count ≡ wires (block_in s) s.numbers.next count

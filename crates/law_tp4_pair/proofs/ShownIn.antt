@@ -5,11 +5,11 @@ use Rattle.std.specs.Prelude.{is_some}
 use Rattle.std.proofs.lemmas.Bool.{false_from_ne_true, ltb-true}
 use Rattle.script_journal.specs.Lawful.{expediteds, normals, shown, submitted}
 use Rattle.script_journal.specs.declared.event.Event.{Event}
-use Rattle.tp4_flow.specs.Half.{Half}
+use Rattle.tp4_flow.specs.ReceivingHalf.{Half}
 use Rattle.tp4_flow.specs.declared.step.EndEvent.{EndEvent}
 use Rattle.tp4_number.specs.declared.blocks.Blocks.{Blocks}
 use Rattle.tp4_number.specs.Sender.{may_send, opens_at}
-use Rattle.tp4_sending.specs.FlowSender.{FlowSender, block_in, due_of, has_next, is_noted, is_urgent, normal_opens, normal_tried, tried_at, urgent_last, urgent_opens, urgent_tried}
+use Rattle.tp4_sending.specs.SendingHalf.{FlowSender, block_in, due_of, has_next, is_noted, is_urgent, normal_opens, normal_tried, tried_at, urgent_last, urgent_opens, urgent_tried}
 use Rattle.tp4_sending.specs.Pieces.{least_due, sooner}
 use Rattle.tp4_sending.specs.Settled.{IsDue}
 use Rattle.tp4_sending.proofs.Dues.{first_due, second_due}

@@ -3,7 +3,7 @@ use Rattle.std.proofs.Common.{◌≡◌, ℕ, zero, suc, ◌+◌, ◌<◌, ◌�
 use Rattle.std.proofs.lemmas.Bool.{lt-leb}
 use Rattle.tpdu.specs.declared.tpdu.Format.{Format}
 use Rattle.tpdu.specs.declared.tpdu.Format.TheVariants.{Normal, Extended}
-use Rattle.tp4_flow.specs.Half.{Half, Received, block_in as block_there, dt_arrival, taken_dt, half_after, ak, aks as aks_for}
+use Rattle.tp4_flow.specs.ReceivingHalf.{Half, Received, block_in as block_there, dt_arrival, taken_dt, half_after, ak, aks as aks_for}
 use Rattle.tp4_number.specs.declared.got.Got.{Got}
 use Rattle.tp4_number.specs.declared.got.Got.TheVariants.{Kept, Old, Outside, TooLarge}
 use Rattle.tp4_number.specs.declared.piece.Piece.{Piece}
@@ -12,7 +12,7 @@ use Rattle.tp4_number.specs.Number.{whole, wire, ahead}
 use Rattle.tp4_number.specs.Receiver.{Inbox, Arrived, arrived, arrived_as, kept}
 use Rattle.tp4_number.specs.Window.{Held, Joined, joined, joined_by, begun_by, is_larger}
 use Rattle.tp4_number.proofs.Numbers.{near_is}
-use Rattle.tp4_sending.specs.FlowSender.{FlowSender, block_in}
+use Rattle.tp4_sending.specs.SendingHalf.{FlowSender, block_in}
 use Rattle.script_journal.specs.Lawful.{Marked}
 use Rattle.law_tp4_moves.specs.Lines.{shown_in}
 use Rattle.law_tp4_pair.specs.steps.Carrying.{Carries}

@@ -1,11 +1,11 @@
 -- A tick of a sender of which nothing waits: nothing is sent again, and what may go goes.
 use Rattle.std.proofs.Common.{◌≡◌, ℕ, ◌+◌, ◌||◌, if◌then◌else◌, List, [], ◌∷◌, length, Option, None, refl, sym, ◌∙◌, ap, subst, arith}
 use Rattle.std.specs.List.{list_any}
-use Rattle.tp4_flow.specs.Half.{Half}
+use Rattle.tp4_flow.specs.ReceivingHalf.{Half}
 use Rattle.tp4_flow.specs.declared.rules.Life.{Life}
 use Rattle.tp4_flow.specs.declared.rules.Life.TheVariants.{Goes, Exhausted}
 use Rattle.tp4_sending.specs.declared.tries.Tries.{Tries}
-use Rattle.tp4_sending.specs.FlowSender.{FlowSender, Sendings, block_in, life_of, is_urgent_spent, nothing, new_sends, resends_urgent_as, ticked, ticked_as, marked_all, all_dts, then_sends, resends, resends_urgent}
+use Rattle.tp4_sending.specs.SendingHalf.{FlowSender, Sendings, block_in, life_of, is_urgent_spent, nothing, new_sends, resends_urgent_as, ticked, ticked_as, marked_all, all_dts, then_sends, resends, resends_urgent}
 use Rattle.tp4_sending.specs.Pieces.{is_spent, due_from, resent}
 use Rattle.law_tp4_pair.specs.steps.Flowing.{IsCalm}
 use Rattle.law_tp4_pair.proofs.Going.{level_there}

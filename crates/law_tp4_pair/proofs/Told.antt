@@ -11,7 +11,7 @@ use Rattle.tp4_number.specs.Number.{near}
 use Rattle.tp4_number.proofs.Past.{if_kept}
 use Rattle.tp4_sending.specs.declared.tries.Tries.{Tries}
 use Rattle.tp4_sending.specs.Pieces.{end_of, is_due}
-use Rattle.tp4_sending.specs.FlowSender.{FlowSender, Sendings, acknowledged, acknowledged_to, at, block_in, has_next, held_normal, held_urgent, holds, is_noted, is_outstanding, is_taken, is_urgent, new_sends, normals, normals_where, nothing, one_urgent, opened, resends, resends_urgent, resends_urgent_as, retried_urgent, rule_allows, sent_normal, sent_urgent, submitted, then_sends, ticked_as, urged, urgent_done}
+use Rattle.tp4_sending.specs.SendingHalf.{FlowSender, Sendings, acknowledged, acknowledged_to, at, block_in, has_next, held_normal, held_urgent, holds, is_noted, is_outstanding, is_taken, is_urgent, new_sends, normals, normals_where, nothing, one_urgent, opened, resends, resends_urgent, resends_urgent_as, retried_urgent, rule_allows, sent_normal, sent_urgent, submitted, then_sends, ticked_as, urged, urgent_done}
 use Rattle.law_tp4_pair.specs.Telling.{HasTold}
 
 -- what a call tells joins what was told

@@ -3,7 +3,7 @@ use Rattle.std.proofs.Common.{ℕ, ◌+◌, ◌==◌, ◌&&◌, not, nat_le, Boo
 use Rattle.std.proofs.lemmas.Bool.{false≢true}
 use Rattle.tpdu.specs.declared.tpdu.Tpdu.{Tpdu}
 use Rattle.tpdu.specs.declared.tpdu.Tpdu.TheVariants.{Dr, Dt, Ed, Ak, Ea, Er}
-use Rattle.tp4_flow.specs.Half.{Half, dt_arrival, half_granted, taken_dt, taken_ed}
+use Rattle.tp4_flow.specs.ReceivingHalf.{Half, dt_arrival, half_granted, taken_dt, taken_ed}
 use Rattle.tp4_flow.specs.declared.rules.FlowRules.{FlowRules}
 use Rattle.tp4_flow.specs.declared.rules.Life.{Life}
 use Rattle.tp4_flow.specs.declared.rules.Life.TheVariants.{Goes, Exhausted}
@@ -15,7 +15,7 @@ use Rattle.tp4_number.specs.declared.got.Got.{Got}
 use Rattle.tp4_number.specs.declared.got.Got.TheVariants.{TooLarge}
 use Rattle.tp4_number.specs.Number.{whole}
 use Rattle.tp4_number.proofs.Past.{if_kept}
-use Rattle.tp4_sending.specs.FlowSender.{Sendings, at, fresh, life_of, opened, ticked}
+use Rattle.tp4_sending.specs.SendingHalf.{Sendings, at, fresh, life_of, opened, ticked}
 use Rattle.tp4_conn.specs.declared.end_record.EndRecord.{EndRecord}
 use Rattle.tp4_conn.specs.declared.call.UserCall.{UserCall}
 use Rattle.tp4_conn.specs.declared.call.UserCall.TheVariants.{Normal, Urgent, Window, Disconnect}

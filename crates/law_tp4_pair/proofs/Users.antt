@@ -1,10 +1,10 @@
 -- A call of the user of an Opened end, where nothing waits.
 use Rattle.std.proofs.Common.{◌≡◌, ℕ, ◌==◌, Bool, true, false, if◌then◌else◌, List, [], ◌∷◌, ◌++◌, Option, Some, None, refl, sym, subst, inl, inr, append-nil, arith, length, ◌<◌}
 use Rattle.std.proofs.lemmas.Bool.{eqb-false, eqb-true}
-use Rattle.tp4_flow.specs.Half.{Half, ak, half_granted}
+use Rattle.tp4_flow.specs.ReceivingHalf.{Half, ak, half_granted}
 use Rattle.tp4_flow.specs.declared.step.Sent.{Sent}
 use Rattle.tpdu.specs.declared.service.EndTold.TheVariants.{Window as WindowTold}
-use Rattle.tp4_sending.specs.FlowSender.{Sendings, at, submitted, urged}
+use Rattle.tp4_sending.specs.SendingHalf.{Sendings, at, submitted, urged}
 use Rattle.tp4_conn.specs.declared.end_record.EndRecord.{EndRecord}
 use Rattle.tp4_conn.specs.declared.call.UserCall.{UserCall}
 use Rattle.tp4_conn.specs.declared.call.UserCall.TheVariants.{Normal, Urgent, Window, Disconnect}

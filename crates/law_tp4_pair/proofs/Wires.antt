@@ -3,9 +3,6 @@ use Rattle.std.proofs.Common.{◌≡◌, ℕ, zero, suc, ◌+◌, ◌≤◌, Lis
 use Rattle.tp4_flow.specs.declared.rules.FlowRules.{FlowRules}
 use Rattle.tp4_flow.specs.declared.step.Sent.{Sent}
 use Rattle.tp4_number.specs.Number.{wire}
-use Rattle.script_journal.specs.Lawful.{Marked}
-use Rattle.tp4_flow.specs.declared.step.EndEvent.{EndEvent}
-use Rattle.law_tp4_moves.specs.Lines.{shown_as, shown_in}
 use Rattle.law_tp4_pair.specs.steps.Waiting.{AreData, View, dt_in, dts_in, ed_in, eds_in, ak_in, aks_in, ea_in, eas_in, wires, views}
 use Rattle.law_tp4_pair.specs.steps.Flowing.{IsNoOlder, Further, Later, Wider, LeadsTo, AllGive}
 
@@ -28,10 +25,6 @@ eas_then (sent ∷ a) b = ap (λ (l : List ℕ). ea_in sent.tpdu ++ l) (eas_then
 pub data_then : (rules : FlowRules) (a b : List Sent) → AreData rules a → AreData rules b → AreData rules (a ++ b)
 data_then rules [] b first second = second
 data_then rules (sent ∷ a) b first second = (first.0, data_then rules a b first.1 second)
-
-pub shown_then : (a b : List EndEvent) → shown_in (a ++ b) ≡ shown_in a ++ shown_in b
-shown_then [] b = refl
-shown_then (event ∷ a) b = ap (λ (l : List Marked). shown_as event.what ++ l) (shown_then a b) ∙ sym (append_assoc (shown_as event.what) (shown_in a) (shown_in b))
 
 pub wires_then : (block n a b : ℕ) → wires block n (a + b) ≡ wires block n a ++ wires block (n + a) b
 wires_then block n zero b =

@@ -1,13 +1,14 @@
 -- What a calm run promises (X.214, queue model): after each `settle` that delivered all, while nothing was dropped, each of two Opened partner
 -- ends has shown all that the other submitted, as far as credit and the number rule allow at that tick (`AllShown`).
 use Rattle.std.specs.Prelude.{◌≡◌, ◌⊎◌, ℕ, true, false, List, Option, Some, Contains}
-use Rattle.script_journal.specs.Lawful.{AreEnds, expediteds, normals, shown, submitted}
+use Rattle.script_journal.specs.Lawful.{expediteds, normals, shown, submitted}
+use Rattle.script_journal.specs.Partner.{AreEnds}
 use Rattle.script_journal.specs.declared.cause.Settled.TheVariants.{Stopped}
 use Rattle.script_journal.specs.declared.event.Event.{Event}
 use Rattle.script_journal.specs.declared.event.Event.TheVariants as events
-use Rattle.tp4_flow.specs.Half.{Half}
+use Rattle.tp4_flow.specs.ReceivingHalf.{Half}
 use Rattle.tp4_number.specs.Sender.{may_send}
-use Rattle.tp4_sending.specs.FlowSender.{FlowSender, block_in}
+use Rattle.tp4_sending.specs.SendingHalf.{FlowSender, block_in}
 use Rattle.tp4_sending.specs.Settled.{IsHeld, waits_normal, waits_urgent}
 use Rattle.tp4_conn.specs.declared.states.InOpened.{InOpened}
 use Rattle.tp4_conn.specs.declared.states.StateData.TheVariants.{Opened}

@@ -1,4 +1,4 @@
-pub mod Calm
+pub mod CalmScript
 pub mod Claim
 pub mod Left
 pub mod Meeting

@@ -2,7 +2,7 @@
 use Rattle.std.specs.Prelude.{◌≡◌, ℕ, true, List, Contains}
 use Rattle.tp4_flow.specs.declared.step.EndEvent.{EndEvent}
 use Rattle.tpdu.specs.declared.service.HeldKind.TheVariants.{Dt, Ed}
-use Rattle.tp4_sending.specs.FlowSender.{FlowSender, holds, is_noted}
+use Rattle.tp4_sending.specs.SendingHalf.{FlowSender, holds, is_noted}
 use Rattle.tp4_conn.specs.declared.states.StateData.{StateData}
 use Rattle.tp4_conn.specs.declared.states.StateData.TheVariants.{AkWait, Opened}
 use Rattle.law_tp4_pair.specs.Pair.{Pair}

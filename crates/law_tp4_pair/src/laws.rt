@@ -3,13 +3,13 @@
 
 ghost use Rattle.std.specs.Prelude.{◌≡◌, ◌⊎◌, ℕ, List, [], ◌∷◌, ◌++◌, Bool, true, false, Option, Some};
 ghost use Rattle.std.specs.List.{list_any};
-ghost use Rattle.tp4_flow.specs.Half.{Half, ak, dt_arrival, half_granted, taken_dt, taken_ed};
+ghost use Rattle.tp4_flow.specs.ReceivingHalf.{Half, ak, dt_arrival, half_granted, taken_dt, taken_ed};
 ghost use Rattle.tp4_flow.specs.declared.rules.Life.TheVariants.{Goes};
 ghost use Rattle.tpdu.specs.declared.service.Options.{Options};
 ghost use Rattle.tp4_number.specs.declared.got.Got.TheVariants.{TooLarge};
 ghost use Rattle.tp4_number.specs.declared.piece.Piece.{Piece};
 ghost use Rattle.tp4_number.specs.Number.{whole};
-ghost use Rattle.tp4_sending.specs.FlowSender.{FlowSender, acknowledged, life_of, submitted, ticked, urged, urgent_done};
+ghost use Rattle.tp4_sending.specs.SendingHalf.{FlowSender, acknowledged, life_of, submitted, ticked, urged, urgent_done};
 ghost use Rattle.tp4_conn.specs.declared.call.UserCall.TheVariants.{Accept};
 ghost use Rattle.tp4_conn.specs.declared.states.InOpened.{InOpened};
 ghost use Rattle.tp4_conn.specs.declared.states.InCrWait.{InCrWait};

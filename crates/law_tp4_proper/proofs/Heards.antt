@@ -10,7 +10,7 @@ use Rattle.tp4_conn.proofs.Sendables.{appended as sendable_both}
 use Rattle.tp4_entity.specs.Association.{met}
 use Rattle.tp4_entity.specs.Entity.{Acted, Entity, at}
 use Rattle.tp4_conn.specs.End.{End}
-use Rattle.tp4_entity.specs.References.{is_silent}
+use Rattle.tp4_entity.specs.Silence.{is_silent}
 use Rattle.tp4_entity.specs.Step.{restarted}
 use Rattle.tp4_entity.specs.Unit.{HearsUnit, Separates, TakesBy, TakesUnit, all_met, extended_of, followed}
 use Rattle.tp4_entity.proofs.Restarts.{none_stands}

@@ -6,7 +6,7 @@ use Rattle.tpdu.proofs.Fronts.{front_or}
 use Rattle.tp4_flow.specs.declared.step.EndEvent.{EndEvent}
 use Rattle.tp4_flow.specs.declared.step.What.TheVariants.{BadTpdu}
 use Rattle.tp4_entity.specs.Entity.{Acted, Entity, at}
-use Rattle.tp4_entity.specs.References.{is_silent}
+use Rattle.tp4_entity.specs.Silence.{is_silent}
 use Rattle.tp4_entity.specs.Unit.{EndsWith, Faulty, HearsUnit, Separates, TakesBy, TakesUnit, Whole, all_met, extended_of, ignored}
 use Rattle.tp4_entity.proofs.Units.{shorter}
 

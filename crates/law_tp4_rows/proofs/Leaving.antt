@@ -7,10 +7,10 @@ use Rattle.tpdu.specs.declared.service.Options.{Options}
 use Rattle.tp4_number.specs.declared.got.Got.{Got}
 use Rattle.tp4_number.specs.declared.got.Got.TheVariants.{TooLarge}
 use Rattle.tp4_number.proofs.Past.{if_kept}
-use Rattle.tp4_flow.specs.Half.{Received, dt_arrival, half_granted}
+use Rattle.tp4_flow.specs.ReceivingHalf.{Received, dt_arrival, half_granted}
 use Rattle.tp4_flow.specs.declared.rules.Life.{Life}
 use Rattle.tp4_flow.specs.declared.rules.Life.TheVariants.{Goes, Exhausted}
-use Rattle.tp4_sending.specs.FlowSender.{at, life_of, opened}
+use Rattle.tp4_sending.specs.SendingHalf.{at, life_of, opened}
 use Rattle.tp4_conn.specs.declared.call.UserCall.{UserCall}
 use Rattle.tp4_conn.specs.declared.call.UserCall.TheVariants.{Accept, Refuse, Normal, Urgent, Window, Disconnect}
 use Rattle.tp4_conn.specs.declared.end_record.EndRecord.{EndRecord}

@@ -1,12 +1,13 @@
 //! Lines out of pieces of any size. Each line is run when it has come whole.
 
-ghost use Rattle.std.specs.Prelude.{◌≡◌, ◌++◌, ◌+◌, ◌<◌, ◌≤◌, ◌∷◌, [], ℕ, List, length, IfSome, IfNone, OnOk, IsErrOf};
+ghost use Rattle.std.specs.Prelude.{◌≡◌, ◌++◌, ◌+◌, ◌<◌, ◌≤◌, ◌∷◌, [], ℕ, List, length, OnOk, IsErrOf};
 ghost use Rattle.line_loop.specs.Limits.{most_octets};
 ghost use Rattle.line_loop.specs.Lines.{most_lines, most_in_line, without_return};
 ghost use Rattle.line_loop.specs.Meaning.{HasRun, HasRefused, HasFilled};
 ghost use Rattle.line_loop.specs.steps.Joined.{HasNoFeed};
 ghost use Rattle.line_loop.specs.steps.Taking.{IsClosing};
 
+use crate::line_end::{split_at_feed, without_return};
 use crate::machine::{LineError, Machine};
 use osi_base::{NoMemory, Status};
 use std::alloc::Global;
@@ -237,23 +238,4 @@ fn run_joined<M: Machine>(
         return Err(LineError::NoMemory);
     };
     machine.run_line(without_return(held), out)
-}
-
-/// The octets before and after the first line feed.
-fn split_at_feed(octets: &[u8]) -> Option<(&[u8], &[u8])>
-    ensures none { IfNone result (HasNoFeed octets.now) }
-    ensures some { IfSome result (λ parts. HasNoFeed parts.0.now × (octets.now ≡ parts.0.now ++ 10 ∷ parts.1.now)) }
-{
-    let end = memchr::memchr(b'\n', octets)?;
-    Some((&octets[..end], &octets[end + 1..]))
-}
-
-/// A line without the carriage return at its end.
-fn without_return(line: &[u8]) -> &[u8]
-    ensures { result.now ≡ without_return line.now }
-{
-    let Some((last, front)) = line.split_last() else {
-        return line;
-    };
-    if *last == b'\r' { front } else { line }
 }

@@ -5,6 +5,7 @@
 #![tactic(auto)]
 
 mod feed;
+mod line_end;
 mod machine;
 mod running;
 mod taking;

@@ -1,10 +1,10 @@
 -- A call has one list of events and leads to one state: it is asked alike, so it is answered alike and leads to one state, and
 -- what waits there is taken up in one way.
-use Rattle.std.proofs.Common.{◌≡◌, ℕ, List, [], ◌∷◌, refl, sym, ◌∙◌, ap, subst}
+use Rattle.std.proofs.Common.{◌≡◌, ◌⊎◌, inl, inr, ℕ, ◌<◌, ◌≤◌, true, false, List, [], ◌∷◌, Some, None, refl, sym, ◌∙◌, ap, subst, arith}
 use Rattle.osi_base.specs.declared.unit.Up.{Up}
 use Rattle.osi_base.specs.declared.unit.Wish.{Wish}
 use Rattle.osi_base.specs.declared.unit.Offered.{Offered}
-use Rattle.osi_base.specs.Link.{Link}
+use Rattle.osi_base.specs.Link.{Link, IsLeastFresh, is_fresh}
 use Rattle.osi_base.specs.Calls.{Call, Offer}
 use Rattle.osi_base.specs.Gathering.{Gathers}
 use Rattle.script_journal.specs.RawLawful.{raw_address}
@@ -12,6 +12,30 @@ use Rattle.script_journal.specs.declared.event.Event.{Event}
 use Rattle.law_carrier_answers.specs.Answers.{OneStep, OneGathering, asked_of}
 use Rattle.net_world.specs.Told.{told, sent_event}
 use Rattle.net_world.specs.Run.{raw_unit, Passes, SendsUnit}
+
+-- ---- the least pair that was not taken
+
+-- one pair comes before another, or is that one
+least_same : (one other : ℕ × ℕ) → ((one.0 < other.0) ⊎ ((one.0 ≡ other.0) × (one.1 ≤ other.1))) → ((other.0 < one.0) ⊎ ((other.0 ≡ one.0) × (other.1 ≤ one.1))) → one ≡ other
+least_same one other up down =
+    let first : one.0 ≡ other.0 = elim up [ inl low ↦ elim down [ inl high ↦ absurd (omega (arith, low, high)) | inr same ↦ sym same.0 ] | inr same ↦ same.0 ] in
+    let second : one.1 ≡ other.1 = elim up [
+      | inl low ↦ absurd (omega (arith, low, first))
+      | inr same ↦ elim down [ inl high ↦ absurd (omega (arith, high, first)) | inr back ↦ omega (arith, same.1, back.1) ]
+    ] in
+    λ i. (first i, second i)
+
+pub least_one : {A : Type 0} (link : Link A) (one other : ℕ × ℕ) → IsLeastFresh link (Some one) → IsLeastFresh link (Some other) → one ≡ other
+least_one link one other a b = least_same one other (a.1 other.0 other.1 b.0) (b.1 one.0 one.1 a.0)
+
+pub least_none : {A : Type 0} (link : Link A) (pair : ℕ × ℕ) → IsLeastFresh link None → IsLeastFresh link (Some pair) → ⊥
+least_none link pair a b =
+    let none : is_fresh link pair.0 pair.1 ≡ false = a pair.0 pair.1 in
+    let some : is_fresh link pair.0 pair.1 ≡ true = b.0 in
+    let apart : false ≡ true = sym none ∙ some in
+    absurd cc
+
+-- ---- calls
 
 -- two runs that have the same events and lead to the same state
 pub record Same {C : Type 0} (made other : List Event) (new next : C) : Type 0 where

@@ -35,10 +35,7 @@ sent_still system to octets (Dropped cause) = record { other = tt; clock = λ no
 
 pub picked_still : (number system : ℕ) (answer : Picked) → IsStill (picked_event number system answer)
 picked_still number system picks.Taken = record { other = tt; clock = λ now. refl }
-picked_still number system picks.NoSuch = record { other = tt; clock = λ now. refl }
-picked_still number system picks.Late = record { other = tt; clock = λ now. refl }
-picked_still number system picks.NotThere = record { other = tt; clock = λ now. refl }
-picked_still number system picks.NotOurs = record { other = tt; clock = λ now. refl }
+picked_still number system answer = record { other = tt; clock = λ now. refl }
 
 shown_clock : (shown : Bool) (now system : ℕ) (from octets : List ℕ) → clock_from now (if shown then events.Unit system from octets ∷ [] else []) ≡ now
 shown_clock true now system from octets = refl

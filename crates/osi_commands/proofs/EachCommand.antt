@@ -10,11 +10,11 @@ use Rattle.osi_base.specs.declared.status.Status.TheVariants.{Done, NoMemory}
 use Rattle.script_storm.specs.declared.request.Storm.{Storm}
 use Rattle.osi_commands.specs.Commands.{IsCalled, IsStorm}
 use Rattle.osi_commands.specs.EachCommand.{is_decode, is_frames, is_run, is_word, kind_of}
-use Rattle.osi_commands.specs.Kinds.{name_of}
+use Rattle.osi_kinds.specs.Kinds.{name_of}
 use Rattle.osi_commands.specs.declared.command.Command.{Command}
 use Rattle.osi_commands.specs.declared.command.Command.TheVariants as commands
-use Rattle.osi_commands.specs.declared.kinds.Kind.{Kind}
-use Rattle.osi_commands.specs.declared.kinds.Kind.TheVariants as kinds
+use Rattle.osi_kinds.specs.declared.kinds.Kind.{Kind}
+use Rattle.osi_kinds.specs.declared.kinds.Kind.TheVariants as kinds
 
 pub word_is : (name : List ℕ) (words : List (List ℕ)) → is_word name words ≡ true → words ≡ name ∷ []
 word_is name [] h = absurd (false≢true h)

@@ -1,9 +1,4 @@
 pub mod Carrying
-pub mod Courses
 pub mod EachCommand
-pub mod Generated
 pub mod InMemory
-pub mod KindLaws
 pub mod StormWords
-pub mod Storming
-pub mod Summaries

@@ -14,8 +14,8 @@ use Rattle.capture_decode.specs.Course.{capture_course, Finishes, IsAccepted as 
 use Rattle.script_storm.specs.declared.request.Storm.{Storm}
 use Rattle.script_storm.specs.Request.{Asks as AsksStorm}
 use Rattle.script_frames.specs.Frames.{AsksForCapture, IsFramesRun, frames_meaning}
-use Rattle.osi_commands.specs.Kinds.{AsksOf, IsAcceptedBy, IsToldBy, name_of}
-use Rattle.osi_commands.specs.Storm.{AsksSummary, IsStormRun}
+use Rattle.osi_kinds.specs.Kinds.{AsksOf, IsAcceptedBy, IsToldBy, name_of}
+use Rattle.osi_storm.specs.Storm.{AsksSummary, IsStormRun}
 use Rattle.osi_commands.specs.declared.command.Command.{Command}
 use Rattle.osi_commands.specs.declared.command.Command.TheVariants as commands
 

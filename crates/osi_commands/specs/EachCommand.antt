@@ -5,8 +5,8 @@ use Rattle.std.specs.Str.{bytes_eq}
 use Rattle.osi_base.specs.declared.status.Status.{Status}
 use Rattle.osi_commands.specs.Commands.{Does, IsCalled}
 use Rattle.osi_commands.specs.declared.command.Command.{Command}
-use Rattle.osi_commands.specs.declared.kinds.Kind.{Kind}
-use Rattle.osi_commands.specs.declared.kinds.Kind.TheVariants as kinds
+use Rattle.osi_kinds.specs.declared.kinds.Kind.{Kind}
+use Rattle.osi_kinds.specs.declared.kinds.Kind.TheVariants as kinds
 
 -- the words; what the source had left and has left; what the sink held and holds; how often reads and writes had failed and have failed; how it ended
 pub record Call : Type 0 where

@@ -1,3 +1,2 @@
--- What only carries the proofs: the command that a word names, and how a generated script goes on.
+-- What only carries the proofs: the command that a word names.
 pub mod Naming
-pub mod Storming

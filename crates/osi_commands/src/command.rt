@@ -6,7 +6,7 @@ ghost use Rattle.osi_commands.specs.declared.command.Command.{Command as Called}
 ghost use Rattle.osi_commands.specs.steps.Naming.{named, named_by};
 ghost use Rattle.script_storm.specs.declared.request.Storm.{Storm as StormWords};
 
-use crate::kinds::Kind;
+use osi_kinds::Kind;
 use script_storm::Storm;
 
 /// A command of the program.

@@ -16,10 +16,10 @@ ghost use Rattle.script_frames.specs.Frames.{AsksForCapture, IsFramesRun, frames
 ghost use Rattle.script_storm.specs.declared.request.Storm.{Storm as StormWords};
 ghost use Rattle.osi_commands.specs.Commands.{IsCalled, IsStorm};
 ghost use Rattle.osi_commands.specs.EachCommand.{Call, Serves, is_decode, is_frames, is_run, kind_of};
-ghost use Rattle.osi_commands.specs.Kinds.{AsksOf, IsAcceptedBy, IsToldBy};
-ghost use Rattle.osi_commands.specs.Storm.{AsksSummary, IsStormRun};
+ghost use Rattle.osi_kinds.specs.Kinds.{AsksOf, IsAcceptedBy, IsToldBy};
+ghost use Rattle.osi_storm.specs.Storm.{AsksSummary, IsStormRun};
 ghost use Rattle.osi_commands.specs.declared.command.Command.{Command as Called};
-ghost use Rattle.osi_commands.specs.declared.kinds.Kind.{Kind as Command};
+ghost use Rattle.osi_kinds.specs.declared.kinds.Kind.{Kind as Command};
 
 /// `run`: a script in, its transcript out.
 pub fn run_does()

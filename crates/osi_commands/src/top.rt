@@ -10,14 +10,13 @@ ghost use Rattle.osi_commands.specs.declared.command.Command.{Command as Called}
 ghost use Rattle.osi_commands.specs.steps.Naming.{IsShort};
 
 use crate::command::Command;
-use crate::kinds::run_kind;
-use crate::laws::generated_scripts_are_lawful;
-use crate::storm::write_storm;
 use capture_decode::decode;
 use law_recovery_scripts::{outages_are_kept, scripts_recover};
 use law_run::{NetWorld, calm_scripts_are_served, ends_are_lawful, systems_are_silent};
 use line_loop::write_last;
 use osi_base::{Bytes, NoMemory, PlainSink, PlainSource, Sink, Source, Status};
+use osi_kinds::run_kind;
+use osi_storm::{generated_scripts_are_lawful, write_storm};
 use script_bench::run_script;
 use script_frames::write_capture;
 use std::alloc::Global;

@@ -3,7 +3,7 @@ use Rattle.std.specs.Prelude.{ℕ, List, [], ◌∷◌, ◌++◌, Option, Some, 
 use Rattle.std.specs.Fmt.{decimal}
 use Rattle.script_lines.specs.declared.cause.LineFault.{LineFault}
 use Rattle.script_lines.specs.Causes.{cause_text}
-use Rattle.script_journal.specs.Told.{line}
+use Rattle.script_journal.specs.Cells.{line}
 
 -- the line at the end of an input that was handled
 abbrev pub done_line : List ℕ

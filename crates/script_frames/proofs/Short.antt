@@ -24,7 +24,8 @@ use Rattle.lan_frame.specs.Frame.{whole_frame}
 use Rattle.lan_bag.specs.declared.setup.Lan.{Lan}
 use Rattle.lan_bag.specs.declared.setup.PortRow.{PortRow}
 use Rattle.lan_bag.specs.Bag.{Bag, BagStep, after_choose, after_inject, after_offer, after_pick, link_of, new_bag}
-use Rattle.lan_bag.specs.Frames.{Frame, frame_of, is_live, kept, kept_at, live_count, marked, marked_at, marked_frame, offered}
+use Rattle.lan_bag.specs.Frames.{Frame, frame_of, is_live, kept, kept_at, marked, marked_at, marked_frame}
+use Rattle.lan_bag.specs.Offers.{live_count, offered}
 use Rattle.lan_bag.specs.Rows.{IsLan, room_on, sender_of}
 use Rattle.esis_tables.specs.Rows.{Rows}
 use Rattle.clnp_system.specs.Node.{Node}

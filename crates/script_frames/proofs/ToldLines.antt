@@ -44,7 +44,8 @@ use Rattle.tp4_flow.specs.declared.step.What.TheVariants as whats
 use Rattle.tp4_number.specs.Number.{wire}
 use Rattle.script_setup.specs.SetUp.{SetUp, nodes_of, set_up, timers_of, titles_of as titles_said}
 use Rattle.law_setup.specs.Entities.{entities_of}
-use Rattle.tp4_world.specs.Run.{Acts, Arrives, BeginsAt, Calls, CallsAt, CallsBy, CallsEnd, ConnectsBy, HearsAll, HearsIf, IsRefused, NoneDue, NoneLeft, OneDue, OneMore, RunsLine, SendsTpdus, Settles, Ticks, TicksAll, TicksEntity, TooMany, clock_of, has_ended, is_for}
+use Rattle.tp4_world.specs.Run.{Acts, Arrives, BeginsAt, Calls, CallsAt, CallsBy, CallsEnd, ConnectsBy, HearsAll, HearsIf, IsRefused, NoneDue, NoneLeft, OneDue, OneMore, RunsLine, SendsTpdus, Settles, Ticks, TicksAll, TicksEntity, TooMany, clock_of, is_for}
+use Rattle.tp4_world.specs.Ended.{has_ended}
 use Rattle.tp4_world.specs.Telling.{call_events, connect_event, drop_events, ends_with, event_for, events_after, inject_event}
 use Rattle.tp4_world.specs.World.{end_numbered, entity_at, latest}
 use Rattle.tp4_world.specs.declared.place.EndAt.{EndAt}

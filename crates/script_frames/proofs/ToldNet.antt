@@ -22,7 +22,8 @@ use Rattle.osi_base.specs.Calls.{Call, Chain, Choose, Inject, NextUp, Offer, Tic
 use Rattle.osi_base.specs.Gathering.{Gathers, takings}
 use Rattle.lan_frame.specs.Frame.{Framed, frame_in}
 use Rattle.lan_bag.specs.Bag.{Bag, BagStep, after_choose, after_inject, after_offer, after_pick, frame_note, link_of}
-use Rattle.lan_bag.specs.Frames.{Frame as SentOne, frame_of, kept_at, live_count, offered}
+use Rattle.lan_bag.specs.Frames.{Frame as SentOne, frame_of, kept_at}
+use Rattle.lan_bag.specs.Offers.{live_count, offered}
 use Rattle.lan_bag.specs.Reading.{up_in, ups_of}
 use Rattle.lan_bag.specs.Rows.{room_on, sender_of}
 use Rattle.lan_bag.specs.declared.setup.PortRow.{PortRow}

@@ -14,7 +14,9 @@ use Rattle.script_journal.specs.declared.event.Event.TheVariants as events
 use Rattle.tpdu.specs.declared.service.GoneCause.TheVariants as gone
 use Rattle.script_journal.specs.declared.cause.Refused.TheVariants as refused
 use Rattle.script_journal.specs.declared.cause.Settled.TheVariants as settled
-use Rattle.script_journal.specs.Told.{Cell, Word, Number, Preferred, System, Lan, Digits, Octets, cell_text, size_cell, cells_of, texts_of}
+use Rattle.script_journal.specs.Told.{cells_of, texts_of}
+use Rattle.script_journal.specs.CauseWords.{size_cell}
+use Rattle.script_journal.specs.Cells.{Cell, Word, Number, Preferred, System, Lan, Digits, Octets, cell_text}
 use Rattle.script_journal.specs.Injective.{AreTold, IsTold}
 use Rattle.tpdu.specs.declared.service.EndTold.TheVariants as tells
 use Rattle.osi_base.specs.declared.note.Note.TheVariants as notes

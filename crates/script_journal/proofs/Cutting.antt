@@ -2,7 +2,7 @@
 use Rattle.std.proofs.Common.{◌≡◌, ℕ, zero, suc, ◌<◌, Bool, true, false, List, [], ◌∷◌, ◌++◌, length, get_or, refl, sym, ◌∙◌, ap, arith, append_assoc}
 use Rattle.std.specs.Prelude.{nat_lt, if◌then◌else◌}
 use Rattle.std.proofs.lemmas.Bool.Decides.{nat_tests}
-use Rattle.script_journal.specs.Told.{line}
+use Rattle.script_journal.specs.Cells.{line}
 use Rattle.script_journal.specs.Injective.{plain}
 
 abbrev pub IsPlain : List ℕ → Type 0

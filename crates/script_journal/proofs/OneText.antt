@@ -13,7 +13,8 @@ use Rattle.hex.proofs.HexLemmas.{decode_of-encode_lower}
 use Rattle.script_lines.specs.Field.{is_name, is_lower_letter, is_letter_or_digit}
 use Rattle.script_lines.specs.Tags.{Tags, AreNames}
 use Rattle.script_journal.specs.declared.event.Event.{Event}
-use Rattle.script_journal.specs.Told.{Cell, Word, Number, Preferred, System, Lan, Digits, Octets, cell_text, cells_of, texts_of, octets_text, line, journal_text}
+use Rattle.script_journal.specs.Told.{cells_of, texts_of, journal_text}
+use Rattle.script_journal.specs.Cells.{Cell, Word, Number, Preferred, System, Lan, Digits, Octets, cell_text, octets_text, line}
 use Rattle.script_journal.specs.Injective.{IsTold, AreTold, EachTold}
 use Rattle.script_journal.proofs.Cutting.{IsPlain, ArePlain, plain_from, plain_at, plain_more, line_same}
 use Rattle.script_journal.proofs.CellKinds.{kind, shape_of, shaped}

@@ -1,7 +1,8 @@
 -- An end has one partner: one event makes the end, so the request and the indication of a connection are those of both its ends.
 use Rattle.std.proofs.Common.{◌≡◌, inl, inr, ℕ, List, sym, ◌∙◌, ap, subst}
 use Rattle.std.proofs.lemmas.Bool.{cases_order}
-use Rattle.script_journal.specs.Lawful.{IsLatest, Partner, AreEnds, ArePartners, AreQueues}
+use Rattle.script_journal.specs.Lawful.{AreQueues}
+use Rattle.script_journal.specs.Partner.{IsLatest, Partner, AreEnds, ArePartners}
 use Rattle.script_journal.specs.declared.event.Event.{Event}
 use Rattle.script_journal.specs.declared.event.Event.TheVariants as events
 use Rattle.script_journal.specs.declared.event.Indication.{Indication}

@@ -7,7 +7,8 @@ use Rattle.script_journal.specs.declared.event.Event.{Event}
 use Rattle.script_journal.specs.declared.event.Event.TheVariants as events
 use Rattle.script_journal.specs.declared.event.Indication.{Indication}
 use Rattle.script_journal.specs.declared.event.Request.{Request}
-use Rattle.script_journal.specs.Lawful.{AreEnds, ArePartners, AreQueues, Expedited, HasPartner, IsFront, IsLatest, Lawful, IsQueue, Makes, Marked, Normal, Partner, expediteds, normals, shown, submitted}
+use Rattle.script_journal.specs.Lawful.{AreQueues, Expedited, HasPartner, IsFront, Lawful, IsQueue, Makes, Marked, Normal, expediteds, normals, shown, submitted}
+use Rattle.script_journal.specs.Partner.{AreEnds, ArePartners, IsLatest, Partner}
 use Rattle.script_journal.specs.Showing.{EachTellsRightly, IsNextUnit, IsRequested, TellsRightly}
 use Rattle.script_journal.proofs.Partners.{one_latest}
 use Rattle.tpdu.specs.declared.service.EndTold.TheVariants as tells
@@ -33,6 +34,32 @@ front_at journal last p event low is = elim (get_back journal last p event is) [
 abbrev MakesNone : Event → Type 0
 MakesNone event = (end : ℕ) → Makes end event → ⊥
 
+-- the two ends of a connection stay such where the requests and the indications stay in their places
+ends_moved : (old new : List Event) → ((p : ℕ) (asked : Request) → slice_get old p ≡ Some (events.Connect asked) → slice_get new p ≡ Some (events.Connect asked))
+    → ((p : ℕ) (asked : Request) → slice_get new p ≡ Some (events.Connect asked) → slice_get old p ≡ Some (events.Connect asked))
+    → ((p : ℕ) (heard : Indication) → slice_get old p ≡ Some (events.Incoming heard) → slice_get new p ≡ Some (events.Incoming heard))
+    → (calling called : ℕ) → AreEnds old calling called → AreEnds new calling called
+ends_moved old new connects connected indicates calling called a =
+    let l = a.partner.latest in
+    record {
+      p = a.p;
+      q = a.q;
+      heard = a.heard;
+      asked = a.asked;
+      partner = record {
+        is = indicates a.p a.heard a.partner.is;
+        latest = record {
+          is = connects a.q a.asked l.is;
+          before = l.before;
+          from = l.from;
+          by = l.by;
+          last = λ r other above below is from by. l.last r other above below (connected r other is) from by;
+        };
+      };
+      calling_is = a.calling_is;
+      called_is = a.called_is;
+    }
+
 module _ (journal : List Event) (last : Event) (none : MakesNone last) where
   abbrev all : List Event
   all = journal ++ last ∷ []
@@ -50,48 +77,11 @@ module _ (journal : List Event) (last : Event) (none : MakesNone last) where
   ]
 
   ends_later : (calling called : ℕ) → AreEnds journal calling called → AreEnds all calling called
-  ends_later calling called a =
-      let l = a.partner.latest in
-      record {
-        p = a.p;
-        q = a.q;
-        heard = a.heard;
-        asked = a.asked;
-        partner = record {
-          is = get_front journal last a.p (events.Incoming a.heard) a.partner.is;
-          latest = record {
-            is = get_front journal last a.q (events.Connect a.asked) l.is;
-            before = l.before;
-            from = l.from;
-            by = l.by;
-            last = λ r other above below is from by. l.last r other above below (get_connect r other is) from by;
-          };
-        };
-        calling_is = a.calling_is;
-        called_is = a.called_is;
-      }
+  ends_later =
+      ends_moved journal all (λ p asked is. get_front journal last p (events.Connect asked) is) get_connect (λ p heard is. get_front journal last p (events.Incoming heard) is)
 
   ends_before : (calling called : ℕ) → AreEnds all calling called → AreEnds journal calling called
-  ends_before calling called a =
-      let l = a.partner.latest in
-      record {
-        p = a.p;
-        q = a.q;
-        heard = a.heard;
-        asked = a.asked;
-        partner = record {
-          is = get_incoming a.p a.heard a.partner.is;
-          latest = record {
-            is = get_connect a.q a.asked l.is;
-            before = l.before;
-            from = l.from;
-            by = l.by;
-            last = λ r other above below is from by. l.last r other above below (get_front journal last r (events.Connect other) is) from by;
-          };
-        };
-        calling_is = a.calling_is;
-        called_is = a.called_is;
-      }
+  ends_before = ends_moved all journal get_connect (λ p asked is. get_front journal last p (events.Connect asked) is) get_incoming
 
 -- ---- whether an end has a partner
 

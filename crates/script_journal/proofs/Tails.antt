@@ -4,7 +4,7 @@ use Rattle.std.specs.Prelude.{Result, Ok, Err, OnOk}
 use Rattle.osi_base.specs.declared.refusal.NoMemory.{NoMemory}
 use Rattle.script_journal.specs.declared.line_fields.LineField.{LineField}
 use Rattle.script_lines.specs.Tags.{Tags}
-use Rattle.script_journal.specs.Told.{line}
+use Rattle.script_journal.specs.Cells.{line}
 use Rattle.script_journal.specs.steps.Written.{tail, piece_text, pieces_text}
 
 pub line_tail : (field : List ℕ) (fields : List (List ℕ)) → line (field ∷ fields) ≡ field ++ tail fields

@@ -24,7 +24,9 @@ use Rattle.tpdu.specs.declared.kind.Kind.{Kind}
 use Rattle.tpdu.specs.declared.kind.Kind.TheVariants as tpdus
 use Rattle.script_journal.specs.declared.cause.UdCause.{UdCause}
 use Rattle.script_journal.specs.declared.cause.UdCause.TheVariants as ud_causes
-use Rattle.script_journal.specs.Told.{Cell, Word, Number, Preferred, System, Lan, Digits, Octets, cells_of, option_cells, size_cell, format_text}
+use Rattle.script_journal.specs.Told.{cells_of}
+use Rattle.script_journal.specs.CauseWords.{option_cells, size_cell, format_text}
+use Rattle.script_journal.specs.Cells.{Cell, Word, Number, Preferred, System, Lan, Digits, Octets}
 use Rattle.tpdu.specs.declared.service.EndTold.TheVariants as tells
 use Rattle.tpdu.specs.declared.service.HeldKind.{HeldKind}
 use Rattle.tpdu.specs.declared.service.HeldKind.TheVariants as helds
@@ -181,33 +183,13 @@ connect_of : List Cell → Option Event
 connect_of (Number n ∷ System s ∷ Number r ∷ Digits a ∷ Octets b ∷ Digits c ∷ Octets d ∷ Octets o ∷ []) = Some (events.Connect (record { end = n; system = s; reference = r; calling = a; calling_selector = b; called = c; called_selector = d; octets = o }))
 connect_of cells = None
 
+abbrev indicated : ℕ → ℕ → ℕ → List ℕ → ℕ → List ℕ → List ℕ → List ℕ → Options → List ℕ → Option Event
+indicated n s r a p b c d options o =
+    Some (events.Incoming (record { end = n; system = s; reference = r; calling = a; partner = p; calling_selector = b; called = c; called_selector = d; options = options; octets = o }))
+
 incoming_of : List Cell → Option Event
-incoming_of (Number n ∷ System s ∷ Number r ∷ Digits a ∷ Number p ∷ Octets b ∷ Digits c ∷ Octets d ∷ Word format ∷ Number size ∷ Word expedited ∷ Word sum ∷ Octets o ∷ []) =
-    Some (events.Incoming (record {
-      end = n;
-      system = s;
-      reference = r;
-      calling = a;
-      partner = p;
-      calling_selector = b;
-      called = c;
-      called_selector = d;
-      options = options_of format false size expedited sum;
-      octets = o;
-    }))
-incoming_of (Number n ∷ System s ∷ Number r ∷ Digits a ∷ Number p ∷ Octets b ∷ Digits c ∷ Octets d ∷ Word format ∷ Preferred size ∷ Word expedited ∷ Word sum ∷ Octets o ∷ []) =
-    Some (events.Incoming (record {
-      end = n;
-      system = s;
-      reference = r;
-      calling = a;
-      partner = p;
-      calling_selector = b;
-      called = c;
-      called_selector = d;
-      options = options_of format true size expedited sum;
-      octets = o;
-    }))
+incoming_of (Number n ∷ System s ∷ Number r ∷ Digits a ∷ Number p ∷ Octets b ∷ Digits c ∷ Octets d ∷ Word format ∷ Number size ∷ Word expedited ∷ Word sum ∷ Octets o ∷ []) = indicated n s r a p b c d (options_of format false size expedited sum) o
+incoming_of (Number n ∷ System s ∷ Number r ∷ Digits a ∷ Number p ∷ Octets b ∷ Digits c ∷ Octets d ∷ Word format ∷ Preferred size ∷ Word expedited ∷ Word sum ∷ Octets o ∷ []) = indicated n s r a p b c d (options_of format true size expedited sum) o
 incoming_of cells = None
 
 gone_line_of : List Cell → Option Event

@@ -2,7 +2,8 @@
 use Rattle.std.specs.Prelude.{◌≡◌, ℕ, ◌<◌, ◌^◌, ◌*◌, Bool, true, false, if◌then◌else◌, List, [], ◌∷◌, length, nat_lt}
 use Rattle.hex.specs.Hex.{IsBytes}
 use Rattle.script_lines.specs.Tags.{Tags}
-use Rattle.script_journal.specs.Told.{Cell, Word, Number, Preferred, System, Lan, Digits, Octets, cells_of}
+use Rattle.script_journal.specs.Told.{cells_of}
+use Rattle.script_journal.specs.Cells.{Cell, Word, Number, Preferred, System, Lan, Digits, Octets}
 use Rattle.script_journal.specs.declared.event.Event.{Event}
 
 -- each octet is above the blank

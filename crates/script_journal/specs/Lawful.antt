@@ -1,41 +1,15 @@
 -- What a journal may tell (X.214, model of the transport service: two queues for each connection; X.224, frozen references).
-use Rattle.std.specs.Prelude.{◌≡◌, ◌⊎◌, ℕ, ◌+◌, ◌<◌, ◌≤◌, ◌==◌, true, if◌then◌else◌, List, [], ◌∷◌, ◌++◌, length, get_or, slice_get, Some}
+use Rattle.std.specs.Prelude.{◌≡◌, ℕ, ◌+◌, ◌<◌, ◌≤◌, ◌==◌, true, if◌then◌else◌, List, [], ◌∷◌, ◌++◌, length, get_or, slice_get, Some}
 use Rattle.nsap.specs.Address.{is_same_system}
 use Rattle.script_journal.specs.declared.event.Event.{Event}
 use Rattle.script_journal.specs.declared.event.Event.TheVariants as events
 use Rattle.script_journal.specs.declared.event.Indication.{Indication}
 use Rattle.script_journal.specs.declared.event.Request.{Request}
-use Rattle.script_journal.specs.RawLawful.{tick_after}
 use Rattle.tpdu.specs.declared.service.EndTold.TheVariants as tells
+use Rattle.script_journal.specs.Silence.{KeepsSilence}
+use Rattle.script_journal.specs.Partner.{Partner, AreEnds}
 
--- ---- partners
-
--- at the place q stands the latest connect request before p that has this address and reference
-pub record IsLatest (journal : List Event) (p q : ℕ) (calling : List ℕ) (reference : ℕ) (asked : Request) : Type 0 where
-  pub is : slice_get journal q ≡ Some (events.Connect asked)
-  pub before : q < p
-  pub from : asked.calling ≡ calling
-  pub by : asked.reference ≡ reference
-  pub last : (r : ℕ) (other : Request) → q < r → r < p → slice_get journal r ≡ Some (events.Connect other) → other.calling ≡ calling → other.reference ≡ reference → ⊥
-
--- the request at the place q is the partner of the indication at p
-pub record Partner (journal : List Event) (p q : ℕ) (heard : Indication) (asked : Request) : Type 0 where
-  pub is : slice_get journal p ≡ Some (events.Incoming heard)
-  pub latest : IsLatest journal p q heard.calling heard.partner asked
-
--- the two ends of a connection: the one asked for it, and the other was asked
-pub record AreEnds (journal : List Event) (calling called : ℕ) : Type 0 where
-  pub p : ℕ
-  pub q : ℕ
-  pub heard : Indication
-  pub asked : Request
-  pub partner : Partner journal p q heard asked
-  pub calling_is : asked.end ≡ calling
-  pub called_is : heard.end ≡ called
-
--- the two are the ends of one connection
-abbrev pub ArePartners : List Event → ℕ → ℕ → Type 0
-ArePartners journal end other = AreEnds journal end other ⊎ AreEnds journal other end
+-- ---- ends
 
 -- the event makes an end: it gives it its number
 abbrev pub Makes : ℕ → Event → Type 0
@@ -122,32 +96,6 @@ pub record AreQueues (titles : List (List ℕ)) (journal : List Event) : Type 0 
   pub back : (calling called : ℕ) → AreEnds journal calling called → IsQueue (submitted called journal) (shown calling journal)
   -- an end without a partner shows nothing
   pub none : (end : ℕ) → ((other : ℕ) → AreEnds journal end other → ⊥) → ((other : ℕ) → AreEnds journal other end → ⊥) → shown end journal ≡ []
-
--- ---- systems that begin again
-
--- the event makes an end at a system
-abbrev pub MakesAt : ℕ → ℕ → Event → Type 0
-MakesAt system end (events.Connect asked) = (asked.system ≡ system) × (asked.end ≡ end)
-MakesAt system end (events.Incoming heard) = (heard.system ≡ system) × (heard.end ≡ end)
-MakesAt system end event = ⊥
-
--- the event is one of the end: it makes it, or names it
-abbrev pub IsOf : ℕ → Event → Type 0
-IsOf end (events.Connect asked) = asked.end ≡ end
-IsOf end (events.Incoming heard) = heard.end ≡ end
-IsOf end (events.End at what) = at ≡ end
-IsOf end (events.Data at octets) = at ≡ end
-IsOf end (events.Expedite at octets) = at ≡ end
-IsOf end (events.Refuse at octets) = at ≡ end
-IsOf end (events.Disconnect at octets) = at ≡ end
-IsOf end event = ⊥
-
--- after a system began again nothing is told of the ends that it had, and for `frozen` ticks it makes none
-pub record KeepsSilence (frozen : ℕ) (journal : List Event) : Type 0 where
-  pub lost : (front middle rest back : List Event) (making event : Event) (end system : ℕ)
-      → journal ≡ front ++ making ∷ (middle ++ events.Restart system ∷ (rest ++ event ∷ back)) → MakesAt system end making → IsOf end event → ⊥
-  pub late : (front middle back : List Event) (making : Event) (end system : ℕ) → journal ≡ front ++ events.Restart system ∷ (middle ++ making ∷ back) → MakesAt system end making
-      → tick_after front + frozen < tick_after (front ++ events.Restart system ∷ middle)
 
 -- ---- lawful
 

@@ -1,6 +1,10 @@
+pub mod CauseWords
+pub mod Cells
 pub mod Injective
 pub mod Lawful
+pub mod Partner
 pub mod RawLawful
 pub mod Showing
+pub mod Silence
 pub mod Told
 pub mod steps

@@ -1,7 +1,8 @@
 -- What a lawful journal says of each event by which a user is told something (X.214, queue model): a unit that is shown is the next one of those that the
 -- partner submitted before, and a connect indication says what the latest request of that end said.
 use Rattle.std.specs.Prelude.{◌≡◌, ℕ, List, ◌∷◌, ◌++◌, length, slice_get, Some}
-use Rattle.script_journal.specs.Lawful.{ArePartners, IsLatest, IsMatched, Marked, expediteds, normals, shown, submitted}
+use Rattle.script_journal.specs.Lawful.{IsMatched, Marked, expediteds, normals, shown, submitted}
+use Rattle.script_journal.specs.Partner.{ArePartners, IsLatest}
 use Rattle.script_journal.specs.declared.event.Event.{Event}
 use Rattle.script_journal.specs.declared.event.Event.TheVariants as events
 use Rattle.script_journal.specs.declared.event.Indication.{Indication}

@@ -2,7 +2,8 @@
 
 ghost use Rattle.std.specs.Prelude.{◌≡◌, if◌then◌else◌};
 ghost use Rattle.script_lines.specs.Tags.{Tags};
-ghost use Rattle.script_journal.specs.Told.{cell_text, size_cell, gone_cell, format_text, held_text, state_text, drop_text, hello_cause_text, hello_text, tpdu_cause_text, tpdu_text, ud_cause_text};
+ghost use Rattle.script_journal.specs.CauseWords.{size_cell, gone_cell, format_text, held_text, state_text, drop_text, hello_cause_text, hello_text, tpdu_cause_text, tpdu_text, ud_cause_text};
+ghost use Rattle.script_journal.specs.Cells.{cell_text};
 ghost use Rattle.script_journal.specs.steps.Written.{piece_text};
 
 use crate::cause::UdCause;

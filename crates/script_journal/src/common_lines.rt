@@ -2,7 +2,8 @@
 
 ghost use Rattle.std.specs.Prelude.{◌∷◌, []};
 ghost use Rattle.script_lines.specs.Tags.{tags_of};
-ghost use Rattle.script_journal.specs.Told.{settled_cells, Word, Number, System, Octets, Digits};
+ghost use Rattle.script_journal.specs.Told.{settled_cells};
+ghost use Rattle.script_journal.specs.Cells.{Word, Number, System, Octets, Digits};
 ghost use Rattle.script_journal.specs.steps.Written.{piece_text, Appends, Heads};
 
 use crate::cause::Settled;

@@ -1,7 +1,8 @@
 //! The lines of datagrams.
 
 ghost use Rattle.std.specs.Prelude.{◌∷◌, [], codes};
-ghost use Rattle.script_journal.specs.Told.{ud_cause_text, Word, Number, System, Octets, Digits};
+ghost use Rattle.script_journal.specs.CauseWords.{ud_cause_text};
+ghost use Rattle.script_journal.specs.Cells.{Word, Number, System, Octets, Digits};
 ghost use Rattle.script_journal.specs.steps.Written.{Appends};
 
 use crate::boxed::Boxed;

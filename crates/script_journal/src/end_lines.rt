@@ -2,7 +2,9 @@
 
 ghost use Rattle.std.specs.Prelude.{◌∷◌, [], codes};
 ghost use Rattle.script_lines.specs.Tags.{tags_of};
-ghost use Rattle.script_journal.specs.Told.{end_cells, held_text, option_cells, refused_cells, gone_cell, Word, Number, System, Octets, Digits};
+ghost use Rattle.script_journal.specs.Told.{end_cells};
+ghost use Rattle.script_journal.specs.CauseWords.{held_text, option_cells, refused_cells, gone_cell};
+ghost use Rattle.script_journal.specs.Cells.{Word, Number, System, Octets, Digits};
 ghost use Rattle.script_journal.specs.steps.Written.{Appends, piece_text};
 
 use crate::cause::Refused;

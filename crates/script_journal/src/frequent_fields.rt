@@ -2,7 +2,7 @@
 
 ghost use Rattle.std.specs.Prelude.{◌≡◌, ◌++◌, ◌∷◌, [], OnOk};
 ghost use Rattle.hex.specs.Hex.{encode_lower};
-ghost use Rattle.script_journal.specs.Told.{octets_text};
+ghost use Rattle.script_journal.specs.Cells.{octets_text};
 
 use osi_base::NoMemory;
 use text_parts::{fill_hex, push};

@@ -2,7 +2,7 @@
 
 ghost use Rattle.std.specs.Prelude.{◌≡◌, ◌++◌, OnOk};
 ghost use Rattle.script_lines.specs.Tags.{tags_of};
-ghost use Rattle.script_journal.specs.Told.{line};
+ghost use Rattle.script_journal.specs.Cells.{line};
 ghost use Rattle.script_journal.specs.steps.Written.{piece_text, pieces_text, tail};
 
 use osi_base::NoMemory;

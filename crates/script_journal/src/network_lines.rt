@@ -1,7 +1,9 @@
 //! The lines of frames, hellos, redirects and TPDUs.
 
 ghost use Rattle.std.specs.Prelude.{◌∷◌, [], codes};
-ghost use Rattle.script_journal.specs.Told.{drop_text, hello_text, note_cells, tpdu_cause_text, tpdu_text, Word, Number, System, Lan, Digits};
+ghost use Rattle.script_journal.specs.Told.{note_cells};
+ghost use Rattle.script_journal.specs.CauseWords.{drop_text, hello_text, tpdu_cause_text, tpdu_text};
+ghost use Rattle.script_journal.specs.Cells.{Word, Number, System, Lan, Digits};
 ghost use Rattle.script_journal.specs.steps.Written.{Appends};
 
 use crate::cause_words::{

@@ -23,30 +23,7 @@ ok_same first second is = cc
 
 row_clear : (word : Word) → are_clear [] (row_of word).fields ≡ true
 row_clear words.Version = refl
-row_clear words.Set = refl
-row_clear words.Lan = refl
-row_clear words.Es = refl
-row_clear words.Is = refl
-row_clear words.Port = refl
-row_clear words.Route = refl
-row_clear words.Path = refl
-row_clear words.Tsap = refl
-row_clear words.Relay = refl
-row_clear words.Start = refl
-row_clear words.Connect = refl
-row_clear words.Accept = refl
-row_clear words.Refuse = refl
-row_clear words.Disconnect = refl
-row_clear words.Data = refl
-row_clear words.Expedite = refl
-row_clear words.Window = refl
-row_clear words.Unit = refl
-row_clear words.Tick = refl
-row_clear words.Settle = refl
-row_clear words.Deliver = refl
-row_clear words.Inject = refl
-row_clear words.Restart = refl
-row_clear words.Send = refl
+row_clear word = refl
 
 -- the word names a line in the scripts of the command
 abbrev pub IsWordOf : Dialect → Word → Type 0
@@ -75,39 +52,31 @@ counted : (names : Declared) (word : Word) (past column : ℕ) (fields : List (L
 counted names word past column fields (Some found) reading its count i = absurd (cc)
 counted names word past column fields None reading its count i = whole names word past column fields _ reading its count refl i
 
-ordered : (names : Declared) (word : Word) (past column : ℕ) (fields : List (List ℕ)) (late out : Bool) (reading : Reading) → IsWordOf names.dialect word
-    → (if late then Err (fault causes.Word 1) else if out then Err (fault causes.Order 1) else counted_read names word column fields (count_fault past column (row_of word).fields fields)) ≡ Ok reading → Came names reading
-ordered names word past column fields true out reading its i = absurd (cc)
-ordered names word past column fields false true reading its i = absurd (cc)
-ordered names word past column fields false false reading its i = counted names word past column fields _ reading its refl i
+-- a test that fails a reading did not hold where it was read
+passes : {A : Type 0} (fails : Bool) (f : LineFault) (r : Result A LineFault) (x : A) → (if fails then Err f else r) ≡ Ok x → r ≡ Ok x
+passes true f r x is = absurd (cc)
+passes false f r x is = is
 
 worded : (names : Declared) (field : List ℕ) (past column : ℕ) (fields : List (List ℕ)) (word : Option Word) (reading : Reading) → word_of names.dialect field ≡ word
     → worded_read names past column fields word ≡ Ok reading → Came names reading
 worded names field past column fields None reading named i = absurd (cc)
 worded names field past column fields (Some word) reading named i =
-    ordered names word past column fields (is_of_later_version names word) (is_out_of_order names word) reading (field, named) i
+    counted names word past column fields _ reading (field, named) refl
+    (passes (is_out_of_order names word) (fault causes.Order 1) _ reading (passes (is_of_later_version names word) (fault causes.Word 1) _ reading i))
 
 split : (names : Declared) (past : ℕ) (fields : List (List ℕ)) (reading : Reading) → split_read names past fields ≡ Ok reading → Came names reading
 split names past [] reading i = absurd (cc)
 split names past (word ∷ fields) reading i = worded names word past (next_column 1 word) fields _ reading refl i
 
-idle : (names : Declared) (octets : List ℕ) (is_it : Bool) (reading : Reading)
-    → (if is_it then Ok (record { line = lines.Nothing; names = names }) else split_read names (length octets + 1) (fields_of octets)) ≡ Ok reading → Came names reading
-idle names octets true reading i = Idle (sym (ok_same _ reading i))
-idle names octets false reading i = split names (length octets + 1) (fields_of octets) reading i
-
-text : (names : Declared) (octets : List ℕ) (reading : Reading) → text_read names octets ≡ Ok reading → Came names reading
-unfolding text_read
-text names octets reading i = idle names octets (is_idle octets) reading i
-
 printable : (names : Declared) (octets : List ℕ) (at : Option ℕ) (reading : Reading) → printable_read names octets at ≡ Ok reading → Came names reading
+unfolding text_read
 printable names octets (Some place) reading i = absurd (cc)
-printable names octets None reading i = text names octets reading i
-
-long : (names : Declared) (octets : List ℕ) (is_it : Bool) (at : Option ℕ) (reading : Reading) → (if is_it then Err (fault causes.Long 40001) else printable_read names octets at) ≡ Ok reading → Came names reading
-long names octets true at reading i = absurd (cc)
-long names octets false at reading i = printable names octets at reading i
+printable names octets None reading i = idle (is_idle octets) i
+  where
+    idle : (is_it : Bool) → (if is_it then Ok (record { line = lines.Nothing; names = names }) else split_read names (length octets + 1) (fields_of octets)) ≡ Ok reading → Came names reading
+    idle true i = Idle (sym (ok_same _ reading i))
+    idle false i = split names (length octets + 1) (fields_of octets) reading i
 
 pub came : (names : Declared) (octets : List ℕ) (reading : Reading) → line_read names octets ≡ Ok reading → Came names reading
 unfolding line_read
-came names octets reading i = long names octets _ _ reading i
+came names octets reading i = printable names octets _ reading (passes _ (fault causes.Long 40001) _ reading i)

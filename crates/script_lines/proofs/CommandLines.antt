@@ -35,9 +35,7 @@ each_has dialects.Relay number parts = (tt, (tt, (tt, (tt, (tt, (tt, (tt, (tt, (
 
 idle_has : (dialect : Dialect) → HasLine dialect lines.Nothing
 idle_has dialects.Run = tt
-idle_has dialects.Datagrams = tt
-idle_has dialects.Inactive = tt
-idle_has dialects.Relay = tt
+idle_has dialect = tt
 
 word_has : (dialect : Dialect) (number : ℕ) (word : Word) (parts : FieldValues) → IsWordOf dialect word → HasLine dialect (line_for number word parts)
 word_has dialect number word parts its =
@@ -45,16 +43,7 @@ word_has dialect number word parts its =
 
 declared_stays : (names : Declared) (effect : Effect) (parts : FieldValues) → (declared_by names effect parts).dialect ≡ names.dialect
 declared_stays names effects.Nothing parts = refl
-declared_stays names effects.Version parts = refl
-declared_stays names effects.Setting parts = refl
-declared_stays names effects.Lan parts = refl
-declared_stays names effects.EndSystem parts = refl
-declared_stays names effects.IntermediateSystem parts = refl
-declared_stays names effects.Port parts = refl
-declared_stays names effects.Route parts = refl
-declared_stays names effects.Path parts = refl
-declared_stays names effects.Selector parts = refl
-declared_stays names effects.Start parts = refl
+declared_stays names effect parts = refl
 
 came_has : (names : Declared) (reading : Reading) → Came names reading → HasLine names.dialect reading.line
 came_has names reading (Idle is) = subst (HasLine names.dialect) (sym (ap (λ (r : Reading). r.line) is)) (idle_has names.dialect)

@@ -1,5 +1,5 @@
 -- A text of at most nine digits stands for a number of 32 bits, and each digit adds to ten times the one before it.
-use Rattle.std.proofs.Common.{◌≡◌, ℕ, zero, suc, ◌+◌, ◌-◌, ◌*◌, ◌^◌, ◌<◌, ◌≤◌, Bool, true, false, List, [], ◌∷◌, length, get_or, take, refl, sym, ◌∙◌, ap, arith}
+use Rattle.std.proofs.Common.{◌≡◌, ℕ, suc, ◌+◌, ◌-◌, ◌*◌, ◌^◌, ◌<◌, ◌≤◌, Bool, true, false, List, [], ◌∷◌, length, get_or, take, refl, sym, ◌∙◌, ap, arith}
 use Rattle.std.specs.List.{list_all}
 use Rattle.std.specs.Char.{digit_value}
 use Rattle.std.specs.Str.Parse.{digits_value, AllDigits}
@@ -39,17 +39,8 @@ all_digits_by (c ∷ cs) each =
     (omega (arith, value_is c here), all_digits_by cs (λ i lt. each (suc i) (omega arith)))
 
 power_le : (n : ℕ) → n ≤ 9 → 10 ^ n ≤ 1000000000
-power_le zero le = omega arith
-power_le (suc zero) le = omega arith
-power_le (suc (suc zero)) le = omega arith
-power_le (suc (suc (suc zero))) le = omega arith
-power_le (suc (suc (suc (suc zero)))) le = omega arith
-power_le (suc (suc (suc (suc (suc zero))))) le = omega arith
-power_le (suc (suc (suc (suc (suc (suc zero)))))) le = omega arith
-power_le (suc (suc (suc (suc (suc (suc (suc zero))))))) le = omega arith
-power_le (suc (suc (suc (suc (suc (suc (suc (suc zero)))))))) le = omega arith
-power_le (suc (suc (suc (suc (suc (suc (suc (suc (suc zero))))))))) le = omega arith
 power_le (suc (suc (suc (suc (suc (suc (suc (suc (suc (suc n)))))))))) le = absurd (omega arith)
+power_le n le = omega arith
 
 pub value_fits : (xs : List ℕ) (i : ℕ) → list_all is_digit xs ≡ true → length xs ≤ 9 → i < length xs → digits_value 10 (take i xs) * 10 + (get_or xs i 0 - 48) < 1000000000
 value_fits xs i all few lt =

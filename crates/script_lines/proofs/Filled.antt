@@ -160,28 +160,12 @@ fills names old (forms.Named named.Lan) field new is = record { good = given (Is
 fills names old (forms.Named named.PortLan) field new is = record { good = given (IsLan names) (λ parts. parts.lan) _ _ new (λ v. refl) (port_lan_there names old.system field) is; keeps = through _ _ (rest_of AtLan) _ new (λ v. refl) is }
 fills names old (forms.Named named.RouteLan) field new is = record { good = given (IsLan names) (λ parts. parts.lan) _ _ new (λ v. refl) (route_lan_there names old.system old.other field) is; keeps = through _ _ (rest_of AtLan) _ new (λ v. refl) is }
 fills names old (forms.Named named.Path) field new is = record { good = given (IsPath names) (λ parts. parts.wish.path) _ _ new (λ v. refl) (path_there names field) is; keeps = through _ _ (rest_of AtWish) _ new (λ v. refl) is }
-fills names old (forms.Plain plain.Key) field new is = record { good = tt; keeps = through _ _ (rest_of Elsewhere) _ new (λ v. refl) is }
-fills names old (forms.Plain plain.Value) field new is = record { good = tt; keeps = through _ _ (rest_of Elsewhere) _ new (λ v. refl) is }
-fills names old (forms.Plain (plain.Number least most)) field new is = record { good = tt; keeps = through _ _ (rest_of Elsewhere) _ new (λ v. refl) is }
-fills names old (forms.Plain (plain.Amount least most)) field new is = record { good = tt; keeps = through _ _ (rest_of Elsewhere) _ new (λ v. refl) is }
-fills names old (forms.Plain plain.Credit) field new is = record { good = tt; keeps = through _ _ (rest_of Elsewhere) _ new (λ v. refl) is }
-fills names old (forms.Plain plain.PathKind) field new is = record { good = tt; keeps = through _ _ (rest_of Elsewhere) _ new (λ v. refl) is }
-fills names old (forms.Plain plain.Format) field new is = record { good = tt; keeps = through _ _ (rest_of Elsewhere) _ new (λ v. refl) is }
-fills names old (forms.Plain plain.Size) field new is = record { good = tt; keeps = through _ _ (rest_of Elsewhere) _ new (λ v. refl) is }
-fills names old (forms.Plain plain.Expedited) field new is = record { good = tt; keeps = through _ _ (rest_of Elsewhere) _ new (λ v. refl) is }
-fills names old (forms.Plain plain.Sum) field new is = record { good = tt; keeps = through _ _ (rest_of Elsewhere) _ new (λ v. refl) is }
 fills names old (forms.Plain plain.Flags) field new is = record { good = tt; keeps = through _ _ (rest_of AtWish) _ new (λ v. refl) is }
 fills names old forms.NewLan field new is = record { good = given (IsFreshLan names) (λ parts. parts.name) _ _ new (λ v. refl) (fresh_there (lan_at names.lans) field) is; keeps = through _ _ (rest_of AtName) _ new (λ v. refl) is }
 fills names old forms.NewSystem field new is = record { good = given (IsFreshSystem names) (λ parts. parts.name) _ _ new (λ v. refl) (fresh_there (system_at names.systems) field) is; keeps = through _ _ (rest_of AtName) _ new (λ v. refl) is }
 fills names old forms.NewPath field new is = record { good = tt; keeps = through _ _ (rest_of AtName) _ new (λ v. refl) is }
-fills names old forms.Title field new is = record { good = tt; keeps = through _ _ (rest_of Elsewhere) _ new (λ v. refl) is }
-fills names old forms.Station field new is = record { good = tt; keeps = through _ _ (rest_of Elsewhere) _ new (λ v. refl) is }
-fills names old forms.Prefix field new is = record { good = tt; keeps = through _ _ (rest_of Elsewhere) _ new (λ v. refl) is }
 fills names old forms.Hops field new is = record { good = given (AreIntermediateSystems names) (λ parts. parts.hops) _ _ new (λ v. refl) (hops_there names field) is; keeps = through _ _ (rest_of AtHops) _ new (λ v. refl) is }
-fills names old forms.NewSelector field new is = record { good = tt; keeps = through _ _ (rest_of Elsewhere) _ new (λ v. refl) is }
-fills names old forms.Selector field new is = record { good = tt; keeps = through _ _ (rest_of Elsewhere) _ new (λ v. refl) is }
-fills names old forms.Called field new is = record { good = tt; keeps = through _ _ (rest_of Elsewhere) _ new (λ v. refl) is }
-fills names old forms.Octets field new is = record { good = tt; keeps = through _ _ (rest_of Elsewhere) _ new (λ v. refl) is }
+fills names old form field new is = record { good = tt; keeps = through _ _ (rest_of Elsewhere) _ new (λ v. refl) is }
 
 abbrev pub AllGood : Declared → List FieldKind → FieldValues → Type 0
 AllGood names [] parts = Unit {0}

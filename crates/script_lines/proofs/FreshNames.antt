@@ -98,25 +98,8 @@ kept_by names words.Is parts g h =
 kept_by names words.Port parts g h = (subst AreNames (sym (kept names.systems parts.system _ (λ system. refl))) h.0, h.1)
 kept_by names words.Route parts g h = (subst AreNames (sym (kept names.systems parts.system _ (λ system. refl))) h.0, h.1)
 kept_by names words.Tsap parts g h = (subst AreNames (sym (kept names.systems parts.system _ (λ system. refl))) h.0, h.1)
-kept_by names words.Version parts g h = h
-kept_by names words.Set parts g h = h
-kept_by names words.Path parts g h = h
 kept_by names words.Relay parts g h = (subst AreNames (sym (kept names.systems parts.system _ (λ system. refl))) h.0, h.1)
-kept_by names words.Start parts g h = h
-kept_by names words.Connect parts g h = h
-kept_by names words.Accept parts g h = h
-kept_by names words.Refuse parts g h = h
-kept_by names words.Disconnect parts g h = h
-kept_by names words.Data parts g h = h
-kept_by names words.Expedite parts g h = h
-kept_by names words.Window parts g h = h
-kept_by names words.Unit parts g h = h
-kept_by names words.Tick parts g h = h
-kept_by names words.Settle parts g h = h
-kept_by names words.Deliver parts g h = h
-kept_by names words.Inject parts g h = h
-kept_by names words.Restart parts g h = h
-kept_by names words.Send parts g h = h
+kept_by names word parts g h = h
 
 by_origin : (names : Declared) (reading : Reading) → Came names reading → HaveNames names → HaveNames reading.names
 by_origin names reading (Idle is) h = subst HaveNames (sym (ap (λ (r : Reading). r.names) is)) h

@@ -12,8 +12,6 @@ use Rattle.script_lines.proofs.Came.{Came, Idle, Worded, came}
 use Rattle.script_lines.proofs.Filled.{AllGood, onto}
 
 named : (names : Declared) (word : Word) (parts : FieldValues) → AllGood names (onto (row_of word).fields []) parts → NamesDeclared names (line_for (next_number names (row_of word).effect) word parts)
-named names words.Version parts g = tt
-named names words.Set parts g = tt
 named names words.Lan parts g = refl
 named names words.Es parts g = refl
 named names words.Is parts g = refl
@@ -22,21 +20,13 @@ named names words.Route parts g = (g.1.1.1.0, g.1.0, g.0)
 named names words.Path parts g = (refl, g.0)
 named names words.Tsap parts g = g.1.0
 named names words.Relay parts g = (g.1.1.1.0, g.1.0.0, g.1.0.1)
-named names words.Start parts g = tt
 named names words.Connect parts g = (g.1.1.1.1.1.1.1.1.0, g.1.1.1.1.1.1.0)
-named names words.Accept parts g = tt
-named names words.Refuse parts g = tt
-named names words.Disconnect parts g = tt
-named names words.Data parts g = tt
-named names words.Expedite parts g = tt
-named names words.Window parts g = tt
 named names words.Unit parts g = (g.1.1.1.1.0, g.1.1.1.0, g.1.0)
-named names words.Tick parts g = tt
-named names words.Settle parts g = tt
 named names words.Deliver parts g = g.0
 named names words.Inject parts g = (g.1.1.0, g.1.0)
 named names words.Restart parts g = g.0
 named names words.Send parts g = (g.1.1.1.1.0, g.1.1.0)
+named names word parts g = tt
 
 by_origin : (names : Declared) (reading : Reading) → Came names reading → NamesDeclared names reading.line
 by_origin names reading (Idle is) = subst (NamesDeclared names) (sym (ap (λ (r : Reading). r.line) is)) tt

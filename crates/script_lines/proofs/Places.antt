@@ -94,28 +94,10 @@ fact_of (forms.Named named.Lan) = ALan
 fact_of (forms.Named named.PortLan) = ALan
 fact_of (forms.Named named.RouteLan) = ALan
 fact_of (forms.Named named.Path) = APath
-fact_of (forms.Plain plain.Key) = NoFact
-fact_of (forms.Plain plain.Value) = NoFact
-fact_of (forms.Plain (plain.Number least most)) = NoFact
-fact_of (forms.Plain (plain.Amount least most)) = NoFact
-fact_of (forms.Plain plain.Credit) = NoFact
-fact_of (forms.Plain plain.PathKind) = NoFact
-fact_of (forms.Plain plain.Format) = NoFact
-fact_of (forms.Plain plain.Size) = NoFact
-fact_of (forms.Plain plain.Expedited) = NoFact
-fact_of (forms.Plain plain.Sum) = NoFact
-fact_of (forms.Plain plain.Flags) = NoFact
 fact_of forms.NewLan = FreshLan
 fact_of forms.NewSystem = FreshSystem
-fact_of forms.NewPath = NoFact
-fact_of forms.Title = NoFact
-fact_of forms.Station = NoFact
-fact_of forms.Prefix = NoFact
 fact_of forms.Hops = AllHops
-fact_of forms.NewSelector = NoFact
-fact_of forms.Selector = NoFact
-fact_of forms.Called = NoFact
-fact_of forms.Octets = NoFact
+fact_of kind = NoFact
 
 abbrev pub place_of : FieldKind → Place
 place_of (forms.Named named.System) = AtSystem
@@ -127,28 +109,12 @@ place_of (forms.Named named.Lan) = AtLan
 place_of (forms.Named named.PortLan) = AtLan
 place_of (forms.Named named.RouteLan) = AtLan
 place_of (forms.Named named.Path) = AtWish
-place_of (forms.Plain plain.Key) = Elsewhere
-place_of (forms.Plain plain.Value) = Elsewhere
-place_of (forms.Plain (plain.Number least most)) = Elsewhere
-place_of (forms.Plain (plain.Amount least most)) = Elsewhere
-place_of (forms.Plain plain.Credit) = Elsewhere
-place_of (forms.Plain plain.PathKind) = Elsewhere
-place_of (forms.Plain plain.Format) = Elsewhere
-place_of (forms.Plain plain.Size) = Elsewhere
-place_of (forms.Plain plain.Expedited) = Elsewhere
-place_of (forms.Plain plain.Sum) = Elsewhere
 place_of (forms.Plain plain.Flags) = AtWish
 place_of forms.NewLan = AtName
 place_of forms.NewSystem = AtName
 place_of forms.NewPath = AtName
-place_of forms.Title = Elsewhere
-place_of forms.Station = Elsewhere
-place_of forms.Prefix = Elsewhere
 place_of forms.Hops = AtHops
-place_of forms.NewSelector = Elsewhere
-place_of forms.Selector = Elsewhere
-place_of forms.Called = Elsewhere
-place_of forms.Octets = Elsewhere
+place_of kind = Elsewhere
 
 pub record Six : Type 0 where
   pub system : ℕ
@@ -171,63 +137,27 @@ rest_of Nowhere parts = record { system = parts.system; other = parts.other; lan
 
 same_system : (place : Place) (old new : FieldValues) → apart place AtSystem ≡ true → rest_of place new ≡ rest_of place old → new.system ≡ old.system
 same_system AtSystem old new far is = absurd (cc)
-same_system AtOther old new far is = ap (λ (six : Six). six.system) is
-same_system AtLan old new far is = ap (λ (six : Six). six.system) is
-same_system AtWish old new far is = ap (λ (six : Six). six.system) is
-same_system AtHops old new far is = ap (λ (six : Six). six.system) is
-same_system AtName old new far is = ap (λ (six : Six). six.system) is
-same_system Elsewhere old new far is = ap (λ (six : Six). six.system) is
-same_system Nowhere old new far is = ap (λ (six : Six). six.system) is
+same_system place old new far is = ap (λ (six : Six). six.system) is
 
 same_other : (place : Place) (old new : FieldValues) → apart place AtOther ≡ true → rest_of place new ≡ rest_of place old → new.other ≡ old.other
-same_other AtSystem old new far is = ap (λ (six : Six). six.other) is
 same_other AtOther old new far is = absurd (cc)
-same_other AtLan old new far is = ap (λ (six : Six). six.other) is
-same_other AtWish old new far is = ap (λ (six : Six). six.other) is
-same_other AtHops old new far is = ap (λ (six : Six). six.other) is
-same_other AtName old new far is = ap (λ (six : Six). six.other) is
-same_other Elsewhere old new far is = ap (λ (six : Six). six.other) is
-same_other Nowhere old new far is = ap (λ (six : Six). six.other) is
+same_other place old new far is = ap (λ (six : Six). six.other) is
 
 same_lan : (place : Place) (old new : FieldValues) → apart place AtLan ≡ true → rest_of place new ≡ rest_of place old → new.lan ≡ old.lan
-same_lan AtSystem old new far is = ap (λ (six : Six). six.lan) is
-same_lan AtOther old new far is = ap (λ (six : Six). six.lan) is
 same_lan AtLan old new far is = absurd (cc)
-same_lan AtWish old new far is = ap (λ (six : Six). six.lan) is
-same_lan AtHops old new far is = ap (λ (six : Six). six.lan) is
-same_lan AtName old new far is = ap (λ (six : Six). six.lan) is
-same_lan Elsewhere old new far is = ap (λ (six : Six). six.lan) is
-same_lan Nowhere old new far is = ap (λ (six : Six). six.lan) is
+same_lan place old new far is = ap (λ (six : Six). six.lan) is
 
 same_path : (place : Place) (old new : FieldValues) → apart place AtWish ≡ true → rest_of place new ≡ rest_of place old → new.wish.path ≡ old.wish.path
-same_path AtSystem old new far is = ap (λ (six : Six). six.path) is
-same_path AtOther old new far is = ap (λ (six : Six). six.path) is
-same_path AtLan old new far is = ap (λ (six : Six). six.path) is
 same_path AtWish old new far is = absurd (cc)
-same_path AtHops old new far is = ap (λ (six : Six). six.path) is
-same_path AtName old new far is = ap (λ (six : Six). six.path) is
-same_path Elsewhere old new far is = ap (λ (six : Six). six.path) is
-same_path Nowhere old new far is = ap (λ (six : Six). six.path) is
+same_path place old new far is = ap (λ (six : Six). six.path) is
 
 same_hops : (place : Place) (old new : FieldValues) → apart place AtHops ≡ true → rest_of place new ≡ rest_of place old → new.hops ≡ old.hops
-same_hops AtSystem old new far is = ap (λ (six : Six). six.hops) is
-same_hops AtOther old new far is = ap (λ (six : Six). six.hops) is
-same_hops AtLan old new far is = ap (λ (six : Six). six.hops) is
-same_hops AtWish old new far is = ap (λ (six : Six). six.hops) is
 same_hops AtHops old new far is = absurd (cc)
-same_hops AtName old new far is = ap (λ (six : Six). six.hops) is
-same_hops Elsewhere old new far is = ap (λ (six : Six). six.hops) is
-same_hops Nowhere old new far is = ap (λ (six : Six). six.hops) is
+same_hops place old new far is = ap (λ (six : Six). six.hops) is
 
 same_name : (place : Place) (old new : FieldValues) → apart place AtName ≡ true → rest_of place new ≡ rest_of place old → new.name ≡ old.name
-same_name AtSystem old new far is = ap (λ (six : Six). six.name) is
-same_name AtOther old new far is = ap (λ (six : Six). six.name) is
-same_name AtLan old new far is = ap (λ (six : Six). six.name) is
-same_name AtWish old new far is = ap (λ (six : Six). six.name) is
-same_name AtHops old new far is = ap (λ (six : Six). six.name) is
 same_name AtName old new far is = absurd (cc)
-same_name Elsewhere old new far is = ap (λ (six : Six). six.name) is
-same_name Nowhere old new far is = ap (λ (six : Six). six.name) is
+same_name place old new far is = ap (λ (six : Six). six.name) is
 
 pub both : (a b : Bool) → a && b ≡ true → (a ≡ true) × (b ≡ true)
 both true true is = (refl, refl)

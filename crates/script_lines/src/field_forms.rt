@@ -1,10 +1,10 @@
 //! The forms that a field of a line may have by its characters alone.
 
-ghost use Rattle.std.specs.Prelude.{◌≡◌, ◌<◌, ◌≤◌, ◌^◌, ◌%◌, length, IsTrue};
+ghost use Rattle.std.specs.Prelude.{◌≡◌, ◌≤◌, ◌%◌, length, IsTrue};
 ghost use Rattle.hex.specs.Hex.{decode_pairs};
-ghost use Rattle.script_lines.specs.Field.{is_word, is_name, number_of, title_of, station_of, prefix_of, octets_of, as_octets, within, choice_of, digits_cause};
-ghost use Rattle.script_lines.specs.Field.{is_digit, is_letter_or_digit, is_number};
-ghost use Rattle.script_lines.specs.Reading.{flags_of, format_of, path_kind_of, size_of, as_listed, as_preferred, selector_of, is_size};
+ghost use Rattle.script_lines.specs.Field.{number_of, title_of, station_of, prefix_of, octets_of, as_octets, choice_of, digits_cause};
+ghost use Rattle.script_lines.specs.Field.{is_digit, is_number};
+ghost use Rattle.script_lines.specs.Reading.{flags_of, format_of, path_kind_of, size_of, as_listed, as_preferred, selector_of};
 ghost use Rattle.script_lines.specs.Gives.{Found};
 ghost use Rattle.std.specs.List.{list_all};
 ghost use Rattle.std.specs.Str.Parse.{digits_value};
@@ -25,34 +25,6 @@ const DIGITS: usize = 9;
 pub struct TpduSize {
     pub octets: u16,
     pub preferred: bool,
-}
-
-/// Whether the field is a name: a lower-case letter and up to seven letters or digits, but not `frame`.
-#[tactic(auto, unfolding(crate::specs::Field::is_name))]
-pub fn is_name(field: &str) -> bool
-    ensures { result ≡ is_name field.now }
-{
-    match field.as_bytes() {
-        [] => false,
-        [first, others @ ..] => {
-            first.is_ascii_lowercase()
-                && are_letters_or_digits(others)
-                && others.len() <= 7
-                && !(others.len() == 4 && field == "frame")
-        }
-    }
-}
-
-fn are_letters_or_digits(octets: &[u8]) -> bool
-    ensures { result ≡ list_all is_letter_or_digit octets.now }
-{
-    octets.iter().all(|octet| is_letter_or_digit(*octet))
-}
-
-fn is_letter_or_digit(octet: u8) -> bool
-    ensures { result ≡ is_letter_or_digit octet }
-{
-    matches!(octet, b'a'..=b'z' | b'A'..=b'Z' | b'0'..=b'9')
 }
 
 /// The number that the field stands for, from `least` to `most`.

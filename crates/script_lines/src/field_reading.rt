@@ -7,12 +7,12 @@ ghost use Rattle.script_lines.specs.Reading.{with_size};
 use crate::cause::{FieldRefusal, LineCause, put, put_found, put_some};
 use crate::field_forms::{self, TpduSize};
 use crate::field_values::FieldValues;
-use crate::line_fields::{CommaNames, are_many, are_names};
+use crate::name_form::is_name;
 use crate::names::Names;
 use crate::settings::{self, Key};
 use crate::words::{FieldKind, NameKind, WordKind};
 use nsap::{Nsap, Prefix, Snpa};
-use osi_base::{Bytes, Items};
+use osi_base::Bytes;
 use tpdu::Options;
 
 /// Puts a size that was read into its place.
@@ -33,14 +33,14 @@ impl Names {
     ghost use Rattle.script_lines.specs.Gives.{Gives, Found};
     ghost use Rattle.script_lines.specs.Known.{system_at};
     ghost use Rattle.script_lines.specs.Settings.{key_of};
-    ghost use Rattle.script_lines.specs.Reading.{system_of, end_system_of, other_end_of, lan_of, port_lan_of, route_lan_of, path_of, new_name, unset_key, value_of};
-    ghost use Rattle.script_lines.specs.Reading.{new_title, new_station, new_prefix, new_selector, hops_of, each_intermediate, intermediate};
+    ghost use Rattle.script_lines.specs.Reading.{system_of, end_system_of, other_end_of, lan_of, port_lan_of, path_of, new_name, unset_key, value_of};
+    ghost use Rattle.script_lines.specs.Reading.{new_title, new_station, new_prefix, new_selector};
     ghost use Rattle.script_lines.specs.Reading.{named_read, plain_read, field_read};
 
     fn system_of(&self, field: &str) -> Result<u8, LineCause>
         ensures { result ≡ system_of self.now field.now }
     {
-        if !field_forms::is_name(field) {
+        if !is_name(field) {
             return Err(LineCause::Syntax);
         }
         match self.system_at(field) {
@@ -72,10 +72,10 @@ impl Names {
         }
     }
 
-    fn lan_of(&self, field: &str) -> Result<u8, LineCause>
+    pub(crate) fn lan_of(&self, field: &str) -> Result<u8, LineCause>
         ensures { result ≡ lan_of self.now field.now }
     {
-        if !field_forms::is_name(field) {
+        if !is_name(field) {
             return Err(LineCause::Syntax);
         }
         match self.lan_at(field) {
@@ -95,17 +95,6 @@ impl Names {
         }
     }
 
-    #[tactic(auto, unfolding(crate::specs::Reading::route_lan_of))]
-    fn route_lan_of(&self, system: u8, next: u8, field: &str) -> Result<u8, LineCause>
-        ensures { result ≡ route_lan_of self.now system next field.now }
-    {
-        match self.lan_of(field) {
-            Ok(lan) if self.has_port(system, lan) && self.has_port(next, lan) => Ok(lan),
-            Ok(_) => Err(LineCause::Unknown),
-            Err(cause) => Err(cause),
-        }
-    }
-
     #[tactic(auto, unfolding(crate::specs::Reading::path_of))]
     fn path_of(&self, field: &str) -> Result<u8, LineCause>
         ensures { result ≡ path_of self.now field.now }
@@ -113,7 +102,7 @@ impl Names {
         if matches!(field.as_bytes(), [b'-']) {
             return Ok(0);
         }
-        if !field_forms::is_name(field) {
+        if !is_name(field) {
             return Err(LineCause::Syntax);
         }
         match self.path_at(field) {
@@ -193,52 +182,11 @@ impl Names {
         }
     }
 
-    /// One to four intermediate systems.
-    #[tactic(auto, unfolding(crate::specs::Reading::hops_of))]
-    fn hops_of(&self, field: &str) -> Result<Items<u8>, FieldRefusal>
-        ensures { Found (hops_of self.now field.now) result }
-    {
-        if !are_names(field) {
-            return Err(FieldRefusal::Cause(LineCause::Syntax));
-        }
-        if are_many(field) {
-            return Err(FieldRefusal::Cause(LineCause::Range));
-        }
-        self.each_intermediate(CommaNames::of(field))
-    }
-
-    /// The numbers of intermediate systems.
-    fn each_intermediate(&self, mut names: CommaNames<'_>) -> Result<Items<u8>, FieldRefusal>
-        ensures { Found (each_intermediate self.now names.entry) result }
-    {
-        let mut hops = Vec::new(self.alloc);
-        while let Some(name) = names.next() {
-            match self.intermediate(name) {
-                Ok(hop) => match hops.push(hop) {
-                    Ok(()) => {}
-                    Err(_) => return Err(FieldRefusal::NoMemory),
-                },
-                Err(cause) => return Err(FieldRefusal::Cause(cause)),
-            }
-        }
-        Ok(Items::of(hops))
-    }
-
-    fn intermediate(&self, name: &str) -> Result<u8, LineCause>
-        ensures { result ≡ intermediate self.now (system_at self.now.systems name.now) }
-    {
-        match self.system_at(name) {
-            Some(system) if self.is_end(system) => Err(LineCause::Unknown),
-            Some(system) => Ok(system),
-            None => Err(LineCause::Unknown),
-        }
-    }
-
     /// A name that stands nowhere yet, by where it was found.
     fn new_name(&self, found: Option<u8>, field: &str) -> Result<Bytes, FieldRefusal>
         ensures { Found (new_name found field.now) result }
     {
-        if !field_forms::is_name(field) {
+        if !is_name(field) {
             return Err(FieldRefusal::Cause(LineCause::Syntax));
         }
         if found.is_some() {

@@ -7,7 +7,7 @@ ghost use Rattle.script_lines.specs.steps.Split.{fields_left, octets_left, names
 ghost use Rattle.script_lines.specs.Field.{fields_of, is_name};
 ghost use Rattle.script_lines.specs.Reading.{listed_names};
 
-use crate::field_forms;
+use crate::name_form::is_name;
 use std::marker::Model;
 
 /// The fields that are left of a line, and the column of the first of them.
@@ -137,7 +137,7 @@ pub fn are_names(field: &str) -> bool
 {
     let mut names = CommaNames::of(field);
     while let Some(name) = names.next() {
-        if !field_forms::is_name(name) {
+        if !is_name(name) {
             return false;
         }
     }

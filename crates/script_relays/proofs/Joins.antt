@@ -3,7 +3,7 @@ use Rattle.std.proofs.Common.{◌≡◌, ◌≢◌, ◌⊎◌, inl, inr, ℕ, ze
 use Rattle.std.specs.Prelude.{slice_get, slice_index_or}
 use Rattle.std.specs.List.{AllByRecursion, Contains, list_any}
 use Rattle.std.proofs.lemmas.Bool.{eqb-true, false≢true}
-use Rattle.script_journal.specs.Lawful.{AreEnds}
+use Rattle.script_journal.specs.Partner.{AreEnds}
 use Rattle.script_journal.specs.declared.event.Event.{Event}
 use Rattle.script_journal.specs.declared.event.Event.TheVariants as events
 use Rattle.script_journal.specs.declared.event.Indication.{Indication}
@@ -18,6 +18,7 @@ use Rattle.tp4_relay.specs.Relaying.{AreJoinedOnce, IsCalled, Relays, RelaysUnit
 use Rattle.tp4_relay.specs.steps.Tables.{IsTidy, is_claimed}
 use Rattle.tp4_relay.proofs.Journals.{IsPair, claimed_before, inbound_same, outbound_same}
 use Rattle.tp4_relay.proofs.Tidy.{allowed_notable, tidy_more}
+use Rattle.law_relay_run.proofs.Begun.{nothing_tidy}
 
 -- ---- the pair of a note
 
@@ -197,17 +198,6 @@ place_of (y ∷ xs) (suc k) x low is = place_of xs k x (omega (arith, low)) is
 
 none_claimed : (rows : List RelayRow) (rules : Timers) (i : ℕ) → is_claimed (nothing_kept rows rules).claims i ≡ true → ⊥
 none_claimed rows rules i is = false≢true is
-
-nothing_tidy : (rows : List RelayRow) (rules : Timers) → IsTidy (nothing_kept rows rules)
-nothing_tidy rows rules = record {
-  rise = λ i j d less low. absurd (omega (arith, low));
-  inbounds = λ i j d less low. absurd (omega (arith, low));
-  outbounds = λ i j d less low. absurd (omega (arith, low));
-  claimed = tt;
-  unclaimed = tt;
-  claims_named = tt;
-  outbounds_named = tt;
-}
 
 pub relays : (rows : List RelayRow) (rules : Timers) (journal : List Event) → AreAllowed (nothing_kept rows rules) journal → RelaysUnits journal → Relays journal
 relays rows rules journal all units = record {

@@ -2,6 +2,7 @@
 use Rattle.std.proofs.Common.{◌≡◌, ℕ, zero, suc, ◌<◌, Bool, true, false, List, [], ◌∷◌, ◌++◌, length, map, Option, Some, refl, sym, ◌∙◌, ap, subst, arith}
 use Rattle.std.specs.Prelude.{◌||◌, find, slice_get, slice_set, if◌then◌else◌, IsSome}
 use Rattle.std.specs.List.{AllByRecursion, list_any}
+use Rattle.inactive_step.proofs.Found.{found_of, found_passes}
 
 pub push : {A : Type 0} (P : A → Type 0) (xs : List A) (x : A) → AllByRecursion P xs → P x → AllByRecursion P (xs ++ x ∷ [])
 push P [] x all is = (is, tt)
@@ -59,20 +60,10 @@ set_keeps g (z ∷ xs) (suc i) x y is same (suc n) = set_keeps g xs i x y is sam
 -- ---- the first that passes
 
 pub find_passes : {A : Type 0} (p : A → Bool) (xs : List A) (x : A) → find p xs ≡ Some x → p x ≡ true
-find_passes p [] x is = absurd (cc)
-find_passes p (y ∷ xs) x is = by (find_passes p xs x) (p y) refl is
-  where
-    by : (find p xs ≡ Some x → p x ≡ true) → (b : Bool) → p y ≡ b → (if b then Some y else find p xs) ≡ Some x → p x ≡ true
-    by rest true passes is = let same : y ≡ x = cc in ap p (sym same) ∙ passes
-    by rest false passes is = rest is
+find_passes p xs x is = found_passes p xs x is
 
 pub find_all : {A : Type 0} (P : A → Type 0) (p : A → Bool) (xs : List A) (x : A) → AllByRecursion P xs → find p xs ≡ Some x → P x
-find_all P p [] x all is = absurd (cc)
-find_all P p (y ∷ xs) x all is = by (find_all P p xs x all.1) (p y) is
-  where
-    by : (find p xs ≡ Some x → P x) → (b : Bool) → (if b then Some y else find p xs) ≡ Some x → P x
-    by rest true is = let same : y ≡ x = cc in subst P same all.0
-    by rest false is = rest is
+find_all P p xs x all is = found_of P p xs x all is
 
 pub find_front : {A : Type 0} (p : A → Bool) (xs ys : List A) → IsSome (find p xs) → IsSome (find p (xs ++ ys))
 find_front p [] ys some = absurd (cc)

@@ -15,7 +15,8 @@ use Rattle.inactive_step.proofs.Found.{equal_numbers, same_numbers}
 use Rattle.lan_bag.specs.declared.setup.Lan.{Lan}
 use Rattle.lan_bag.specs.declared.setup.PortRow.{PortRow}
 use Rattle.lan_bag.specs.Bag.{Bag, link_of, new_bag}
-use Rattle.lan_bag.specs.Rows.{AreAllApart, AreApart, IsLan, goes_to, group_of_kind, is_one_of, room_on, same_port, same_snpa, sender_of}
+use Rattle.lan_bag.specs.Rows.{AreAllApart, AreApart, IsLan, room_on, same_port, same_snpa, sender_of}
+use Rattle.lan_bag.specs.Receivers.{goes_to, group_of_kind, is_one_of}
 use Rattle.clnp_system.specs.Setting.{is_group}
 use Rattle.script_setup.specs.Fitting.{AreTitlesApart, IsWell}
 use Rattle.script_setup.specs.Inactive.{inactive_at, inactive_from, inactive_rows, port_of, row_of}

@@ -6,7 +6,7 @@ use Rattle.std.specs.Cmp.Lexicographic.{pointwise}
 use Rattle.std.proofs.Math.ListN.{length-set}
 use Rattle.std.proofs.Math.Seq.{map-set_same}
 use Rattle.std.proofs.lemmas.Bool.{cases_lt, false≢true}
-use Rattle.std.proofs.lemmas.Bool.Decides.{nat_tests}
+use Rattle.std.proofs.lemmas.Cmp.{nat_list_eq_equiv}
 use Rattle.std.proofs.lemmas.List.{append-nil, length-map, map-append}
 use Rattle.std.proofs.lemmas.Option.{get_or_from_slice_get}
 use Rattle.nsap.specs.Address.{is_same_system}
@@ -17,6 +17,7 @@ use Rattle.lan_bag.specs.declared.setup.PortRow.{PortRow}
 use Rattle.lan_bag.specs.Rows.{AreApart, IsLan, same_snpa}
 use Rattle.clnp_route.specs.declared.table.RouteRow.{RouteRow}
 use Rattle.clnp_system.specs.Setting.{IsPath, is_group}
+use Rattle.clnp_system.specs.declared.setup.Path.{Path}
 use Rattle.script_lines.specs.declared.settings.Key.{Key}
 use Rattle.script_lines.specs.declared.settings.Key.TheVariants as keys
 use Rattle.script_lines.specs.Settings.{least_of, most_of}
@@ -63,13 +64,15 @@ nothing_well = record {
   relays_apart = tt;
 }
 
--- ---- a LAN more
+-- ---- what no system and no port comes by
 
-pub lan_well : (setup : SetUp) (lan : Lan) → IsWell setup → IsLan lan → IsWell (record setup { lans = setup.lans ++ lan ∷ [] })
-lan_well setup lan w fits = record {
-  lans = push IsLan setup.lans lan w.lans fits;
-  listed = each (λ (row : PortRow). row.port.lan < length setup.lans) (λ (row : PortRow). row.port.lan < length (setup.lans ++ lan ∷ [])) setup.ports
-      (λ row lt. omega (arith, length-append setup.lans (lan ∷ []))) w.listed;
+-- a set-up with other LANs, times, source routes, limits and relays is well where these are
+others_well : (setup : SetUp) (lans : List Lan) (life hello hold : ℕ) (paths : List Path) (limits : Limits) (relays : List RelayLine) → IsWell setup → AllByRecursion IsLan lans
+    → AllByRecursion (λ (row : PortRow). row.port.lan < length lans) setup.ports → AreTimes life hello hold → AllByRecursion IsPath paths → AreLimits limits → AllByRecursion (IsRelay setup.systems) relays
+    → AllByRecursion (IsTaken setup.systems) relays → AreRelaysApart relays → IsWell (record setup { lans = lans; life = life; hello = hello; hold = hold; paths = paths; limits = limits; relays = relays })
+others_well setup lans life hello hold paths limits relays w are listed times routes bounds joins taken apart = record {
+  lans = are;
+  listed = listed;
   apart = w.apart;
   single = w.single;
   kinds = w.kinds;
@@ -78,14 +81,22 @@ lan_well setup lan w fits = record {
   titles = w.titles;
   distinct = w.distinct;
   hops = w.hops;
-  times = w.times;
-  paths = w.paths;
-  limits = w.limits;
+  times = times;
+  paths = routes;
+  limits = bounds;
   selectors = w.selectors;
-  relays = w.relays;
-  taken = w.taken;
-  relays_apart = w.relays_apart;
+  relays = joins;
+  taken = taken;
+  relays_apart = apart;
 }
+
+-- ---- a LAN more
+
+pub lan_well : (setup : SetUp) (lan : Lan) → IsWell setup → IsLan lan → IsWell (record setup { lans = setup.lans ++ lan ∷ [] })
+lan_well setup lan w fits =
+    others_well setup (setup.lans ++ lan ∷ []) setup.life setup.hello setup.hold setup.paths setup.limits setup.relays w (push IsLan setup.lans lan w.lans fits)
+    (each (λ (row : PortRow). row.port.lan < length setup.lans) (λ (row : PortRow). row.port.lan < length (setup.lans ++ lan ∷ [])) setup.ports
+    (λ row lt. omega (arith, length-append setup.lans (lan ∷ []))) w.listed) w.times w.paths w.limits w.relays w.taken w.relays_apart
 
 -- ---- a system more
 
@@ -285,10 +296,6 @@ row_well setup i system row w is on =
 
 -- ---- a selector more
 
-same_octets : (xs : List ℕ) → pointwise nat_eq xs xs ≡ true
-same_octets [] = refl
-same_octets (x ∷ xs) = let here : nat_eq x x ≡ true = grind (arith, nat_tests) in rw here (same_octets xs)
-
 abbrev pub with_one : System → List ℕ → System
 with_one system selector = record system { selectors = system.selectors ++ selector ∷ [] }
 
@@ -302,7 +309,7 @@ registered_on (first ∷ selectors) selector other is = by (pointwise nat_eq fir
     by false rest at = rest at
 
 registered_last : (selectors : List (List ℕ)) (selector : List ℕ) → is_registered (selectors ++ selector ∷ []) selector ≡ true
-registered_last [] selector = ap (λ (b : Bool). b || false) (same_octets selector)
+registered_last [] selector = ap (λ (b : Bool). b || false) (nat_list_eq_equiv.refl selector)
 registered_last (first ∷ selectors) selector = by (pointwise nat_eq first selector) (registered_last selectors selector)
   where
     by : (b : Bool) → is_registered (selectors ++ selector ∷ []) selector ≡ true → (b || is_registered (selectors ++ selector ∷ []) selector) ≡ true
@@ -345,70 +352,18 @@ pub path_well : (setup : SetUp) (complete : Bool) (systems : List ℕ) → IsWel
     → IsWell (record setup { paths = setup.paths ++ record { complete = complete; titles = map (title_at setup.systems) systems } ∷ [] })
 path_well setup complete systems w new =
     let count : length (map (title_at setup.systems) systems) ≡ length systems = length-map systems (title_at setup.systems) in
-    record {
-      lans = w.lans;
-      listed = w.listed;
-      apart = w.apart;
-      single = w.single;
-      kinds = w.kinds;
-      few_ports = w.few_ports;
-      few = w.few;
-      titles = w.titles;
-      distinct = w.distinct;
-      hops = w.hops;
-      times = w.times;
-      paths = push IsPath setup.paths (record { complete = complete; titles = map (title_at setup.systems) systems }) w.paths
-          (subst (λ (n : ℕ). 1 ≤ n) (sym count) new.some, subst (λ (n : ℕ). n ≤ 4) (sym count) new.few);
-      limits = w.limits;
-      selectors = w.selectors;
-      relays = w.relays;
-      taken = w.taken;
-      relays_apart = w.relays_apart;
-    }
+    let path : Path = record { complete = complete; titles = map (title_at setup.systems) systems } in
+    others_well setup setup.lans setup.life setup.hello setup.hold (setup.paths ++ path ∷ []) setup.limits setup.relays w w.lans w.listed w.times
+    (push IsPath setup.paths path w.paths (subst (λ (n : ℕ). 1 ≤ n) (sym count) new.some, subst (λ (n : ℕ). n ≤ 4) (sym count) new.few)) w.limits w.relays w.taken w.relays_apart
 
 -- ---- a time
 
 pub times_well : (setup : SetUp) (life hello hold : ℕ) → IsWell setup → AreTimes life hello hold → IsWell (record setup { life = life; hello = hello; hold = hold })
-times_well setup life hello hold w times = record {
-  lans = w.lans;
-  listed = w.listed;
-  apart = w.apart;
-  single = w.single;
-  kinds = w.kinds;
-  few_ports = w.few_ports;
-  few = w.few;
-  titles = w.titles;
-  distinct = w.distinct;
-  hops = w.hops;
-  times = times;
-  paths = w.paths;
-  limits = w.limits;
-  selectors = w.selectors;
-  relays = w.relays;
-  taken = w.taken;
-  relays_apart = w.relays_apart;
-}
+times_well setup life hello hold w times =
+    others_well setup setup.lans life hello hold setup.paths setup.limits setup.relays w w.lans w.listed times w.paths w.limits w.relays w.taken w.relays_apart
 
 pub limits_well : (setup : SetUp) (limits : Limits) → IsWell setup → AreLimits limits → IsWell (record setup { limits = limits })
-limits_well setup limits w are = record {
-  lans = w.lans;
-  listed = w.listed;
-  apart = w.apart;
-  single = w.single;
-  kinds = w.kinds;
-  few_ports = w.few_ports;
-  few = w.few;
-  titles = w.titles;
-  distinct = w.distinct;
-  hops = w.hops;
-  times = w.times;
-  paths = w.paths;
-  limits = are;
-  selectors = w.selectors;
-  relays = w.relays;
-  taken = w.taken;
-  relays_apart = w.relays_apart;
-}
+limits_well setup limits w are = others_well setup setup.lans setup.life setup.hello setup.hold setup.paths limits setup.relays w w.lans w.listed w.times w.paths are w.relays w.taken w.relays_apart
 
 module _ (l : Limits) (a : AreLimits l) (value : ℕ) where
   t1_set : 1 ≤ value → value ≤ 255 → AreLimits (record l { t1 = value })
@@ -489,25 +444,9 @@ fresh_apart systems relay (other ∷ relays) taken fresh = (
 
 pub relay_well : (setup : SetUp) (relay : RelayLine) → IsWell setup → IsRelay setup.systems relay → IsTaken setup.systems relay
     → AllByRecursion (λ other. other.system ≡ relay.system → other.selector ≡ relay.selector → ⊥) setup.relays → IsWell (record setup { relays = setup.relays ++ relay ∷ [] })
-relay_well setup relay w is taken apart = record {
-  lans = w.lans;
-  listed = w.listed;
-  apart = w.apart;
-  single = w.single;
-  kinds = w.kinds;
-  few_ports = w.few_ports;
-  few = w.few;
-  titles = w.titles;
-  distinct = w.distinct;
-  hops = w.hops;
-  times = w.times;
-  paths = w.paths;
-  limits = w.limits;
-  selectors = w.selectors;
-  relays = push (IsRelay setup.systems) setup.relays relay w.relays is;
-  taken = push (IsTaken setup.systems) setup.relays relay w.taken taken;
-  relays_apart = relays_push setup.relays relay w.relays_apart apart;
-}
+relay_well setup relay w is taken apart =
+    others_well setup setup.lans setup.life setup.hello setup.hold setup.paths setup.limits (setup.relays ++ relay ∷ []) w w.lans w.listed w.times w.paths w.limits
+    (push (IsRelay setup.systems) setup.relays relay w.relays is) (push (IsTaken setup.systems) setup.relays relay w.taken taken) (relays_push setup.relays relay w.relays_apart apart)
 
 -- a relay is such, and is taken, after its selector is
 pub relay_there : (setup : SetUp) (relay : RelayLine) → IsNewRelay setup relay

@@ -15,7 +15,8 @@ use Rattle.tp4_world.proofs.Lined.{lines_alike}
 use Rattle.tp4_world.proofs.Shown.{first_honest}
 use Rattle.script_journal.specs.declared.event.Event.{Event}
 use Rattle.script_journal.specs.declared.event.Event.TheVariants as events
-use Rattle.script_journal.specs.Lawful.{IsLawful, KeepsSilence, Lawful}
+use Rattle.script_journal.specs.Lawful.{IsLawful, Lawful}
+use Rattle.script_journal.specs.Silence.{KeepsSilence}
 use Rattle.script_lines.specs.declared.line.Line.{Line}
 use Rattle.script_lines.specs.Injecting.{HasNoInject, IsNoInjection}
 use Rattle.script_lines.specs.Known.{Declared, nothing_declared}

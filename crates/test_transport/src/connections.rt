@@ -16,17 +16,17 @@ mod table;
 mod tpdus;
 mod words;
 
-use crate::words::{bytes, events_of, number, pair, plain, word};
+use crate::words::{TIMERS, bytes, events_of, number, pair, plain, word};
 use nsap::Nsap;
 use osi_base::{Bytes, Tick};
 use script::SCRIPT;
 use std::alloc::Global;
 use std::process::Abort;
 use std::test::Fail;
-use tp4_conn::{ConnectCall, ConnectRequest, Connection, Timers, Uncounted, UserCall};
+use tp4_conn::{ConnectCall, ConnectRequest, Connection, Uncounted, UserCall};
 use tp4_flow::{Sent, Step};
 use tpdu::{Format, Options, TpduRef};
-use tpdus::tpdu;
+use tpdus::TpduLine;
 use words::{Sizes, options};
 
 /// An end, what its last line told and sent, and its clock.
@@ -159,12 +159,13 @@ impl Play {
             _ => words.len(),
         };
         let octets = bytes(self.alloc, word(words, place))?;
-        let tpdu = tpdu(
+        let line = TpduLine {
             words,
-            self.end.format(&mut Uncounted),
+            format: self.end.format(&mut Uncounted),
             sum,
-            octets.as_slice(),
-        )?;
+            octets: octets.as_slice(),
+        };
+        let tpdu = line.tpdu()?;
         if !self.end.matches(&system(from)?, &tpdu, &mut Uncounted) {
             return Ok(format!(in self.alloc; "unknown ")?);
         }
@@ -217,16 +218,6 @@ fn show_tpdu(alloc: Global, sent: &Sent) -> Result<String, Fail> {
     let tpdu = plain(alloc, debug.as_str())?;
     Ok(format!(in alloc; " /{tpdu}{format}{sum}{astray}")?)
 }
-
-/// A lifetime of 32 ticks, T1 of 8, 4 sendings, W of 20, I of 60 and a credit of 8: a reference is frozen for 156 ticks.
-const TIMERS: Timers = Timers {
-    life: 32,
-    t1: 8,
-    sendings: 4,
-    window: 20,
-    inactive: 60,
-    credit: 8,
-};
 
 fn system(octet: u8) -> Result<Nsap, Fail> {
     Ok(Nsap::of(&[0x49, octet, 1]).ok_or("an address")?)

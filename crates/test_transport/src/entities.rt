@@ -7,7 +7,7 @@ ghost use Rattle.tp4_entity.specs.Dues.{AreFrom};
 
 mod script;
 
-use crate::words::{bytes, events_of, number, pair, word};
+use crate::words::{TIMERS, bytes, events_of, number, pair, word};
 use nsap::Nsap;
 use osi_base::{Bytes, NoMemory, Tick};
 use script::SCRIPT;
@@ -16,20 +16,10 @@ use std::marker::Brand;
 use std::process::Abort;
 use std::sync::ledger::{Blank, Ledger};
 use std::test::Fail;
-use tp4_conn::{ConnectRequest, Counted, Looks, Timers, Uncounted, UserCall};
+use tp4_conn::{ConnectRequest, Counted, Looks, Uncounted, UserCall};
 use tp4_entity::TpEntity;
 use tp4_flow::{Sent, Step};
 use tpdu::{Format, Options, write_tpdu};
-
-/// A lifetime of 32 ticks, T1 of 8, 4 sendings, W of 20, I of 60 and a credit of 8: a reference is frozen for 156 ticks.
-const TIMERS: Timers = Timers {
-    life: 32,
-    t1: 8,
-    sendings: 4,
-    window: 20,
-    inactive: 60,
-    credit: 8,
-};
 
 /// An entity, what its last line told and sent, and its clock.
 #[derive(Drop)]

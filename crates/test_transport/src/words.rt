@@ -3,7 +3,18 @@
 use osi_base::Bytes;
 use std::alloc::Global;
 use std::test::Fail;
+use tp4_conn::Timers;
 use tp4_flow::{Step, What};
+
+/// A lifetime of 32 ticks, T1 of 8, 4 sendings, W of 20, I of 60 and a credit of 8: a reference is frozen for 156 ticks.
+pub const TIMERS: Timers = Timers {
+    life: 32,
+    t1: 8,
+    sendings: 4,
+    window: 20,
+    inactive: 60,
+    credit: 8,
+};
 
 /// The word at that place.
 pub fn word<'a>(words: &[&'a str], at: usize) -> &'a str {

@@ -16,15 +16,13 @@ use Rattle.tp4_conn.proofs.Sizes.{agreed_sized, both_preferred}
 
 pub expedited_back : (expedited sum : Bool) → (((if expedited then 1 else 0) + (if sum then 0 else 2)) % 2 == 1) ≡ expedited
 expedited_back true true = refl
-expedited_back true false = refl
 expedited_back false true = refl
-expedited_back false false = refl
+expedited_back expedited sum = refl
 
 pub sum_back : (expedited sum : Bool) → (((if expedited then 1 else 0) + (if sum then 0 else 2)) / 2 % 2 == 0) ≡ sum
 sum_back true true = refl
-sum_back true false = refl
 sum_back false true = refl
-sum_back false false = refl
+sum_back expedited sum = refl
 
 -- ---- the sizes
 
@@ -114,16 +112,13 @@ agreed_within proposed asked proposal sized =
     && (by_sum proposed.options.sum asked.sum i && sizes_within proposed asked proposal sized i)))
   where
     by_format : (p a : Format) → (not (is_extended (format_of_both p a)) || is_extended p) ≡ true
-    by_format Normal a = refl
     by_format Extended Normal = refl
-    by_format Extended Extended = refl
+    by_format p a = refl
 
     by_expedited : (p a : Bool) → (not (p && a) || p) ≡ true
     by_expedited true true = refl
-    by_expedited true false = refl
-    by_expedited false a = refl
+    by_expedited p a = refl
 
     by_sum : (p a : Bool) → ((p || a) || not p) ≡ true
-    by_sum true a = refl
     by_sum false true = refl
-    by_sum false false = refl
+    by_sum p a = refl

@@ -3,7 +3,7 @@
 use Rattle.std.proofs.Common.{◌≡◌, ℕ, zero, suc, ◌+◌, ◌-◌, ◌<◌, ◌≤◌, Bool, true, false, if◌then◌else◌, List, [], ◌∷◌, ◌++◌, take, drop, Option, Some, None, refl, sym, subst, inl, inr}
 use Rattle.tp4_number.specs.Number.{near}
 use Rattle.tp4_sending.specs.declared.tries.Tries.{Tries}
-use Rattle.tp4_sending.specs.FlowSender.{FlowSender, acknowledged, acknowledged_to, block_in, due_of, is_outstanding, is_taken, new_sends, nothing, opened, submitted, urgent_done, urgent_last, urged}
+use Rattle.tp4_sending.specs.SendingHalf.{FlowSender, acknowledged, acknowledged_to, block_in, due_of, is_outstanding, is_taken, new_sends, nothing, opened, submitted, urgent_done, urgent_last, urged}
 use Rattle.tp4_sending.specs.Pieces.{least_due}
 use Rattle.tp4_sending.specs.Settled.{IsDue}
 use Rattle.tp4_sending.proofs.Dues.{due_is, either_due, first_due, second_due, urgent_part}

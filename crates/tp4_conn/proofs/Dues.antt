@@ -8,7 +8,7 @@ use Rattle.tp4_flow.specs.declared.rules.Life.TheVariants.{Goes, Exhausted}
 use Rattle.tp4_flow.specs.declared.step.EndEvent.{EndEvent}
 use Rattle.tp4_flow.specs.declared.step.Sent.{Sent}
 use Rattle.tp4_flow.specs.Told.{Told}
-use Rattle.tp4_sending.specs.FlowSender.{FlowSender, Sendings, at, nothing, life_of, ticked, due_of}
+use Rattle.tp4_sending.specs.SendingHalf.{FlowSender, Sendings, at, nothing, life_of, ticked, due_of}
 use Rattle.tp4_sending.specs.Pieces.{again, sooner}
 use Rattle.tp4_sending.specs.Settled.{IsDue}
 use Rattle.tp4_sending.proofs.Dues.{before_due, least}
@@ -82,21 +82,11 @@ punctual s now o some = record {
 
 stage_punctual : (stage : StateData) (now : ℕ) → IsRunning stage → ArePunctual stage now
 stage_punctual (Opened o) now p = punctual o.halves.sending now p.0 p.1
-stage_punctual (CrWait w) now p = tt
-stage_punctual (WaitBeforeClose w) now p = tt
-stage_punctual (UserWait since) now p = tt
-stage_punctual (AkWait w) now p = tt
-stage_punctual (Closing c) now p = tt
-stage_punctual (Frozen when) now p = tt
+stage_punctual stage now p = tt
 
 punctual_prompt : (stage : StateData) (now : ℕ) → ArePunctual stage now → ArePrompt stage now
 punctual_prompt (Opened o) now s = s.after
-punctual_prompt (CrWait w) now s = tt
-punctual_prompt (WaitBeforeClose w) now s = tt
-punctual_prompt (UserWait since) now s = tt
-punctual_prompt (AkWait w) now s = tt
-punctual_prompt (Closing c) now s = tt
-punctual_prompt (Frozen when) now s = tt
+punctual_prompt stage now s = tt
 
 if_true : {A : Type 0} (b : Bool) (x y : A) → b ≡ true → (if b then x else y) ≡ x
 if_true true x y h = refl
@@ -300,21 +290,11 @@ running_due b stage timed runs =
 -- what holds of each end between calls is enough for that
 sound_prompt : (b : EndRecord) (stage : StateData) (now : ℕ) → IsSound b stage → ArePrompt stage now
 sound_prompt b (Opened o) now sound = later o.halves.sending now sound.3 sound.2.t1
-sound_prompt b (CrWait w) now sound = tt
-sound_prompt b (WaitBeforeClose w) now sound = tt
-sound_prompt b (UserWait since) now sound = tt
-sound_prompt b (AkWait w) now sound = tt
-sound_prompt b (Closing c) now sound = tt
-sound_prompt b (Frozen when) now sound = tt
+sound_prompt b stage now sound = tt
 
 sound_runs : (b : EndRecord) (stage : StateData) → IsSound b stage → IsRunning stage
 sound_runs b (Opened o) sound = (sound.3, sound.2.t1)
-sound_runs b (CrWait w) sound = tt
-sound_runs b (WaitBeforeClose w) sound = tt
-sound_runs b (UserWait since) sound = tt
-sound_runs b (AkWait w) sound = tt
-sound_runs b (Closing c) sound = tt
-sound_runs b (Frozen when) sound = tt
+sound_runs b stage sound = tt
 
 pub end_due : (b : EndRecord) (stage : StateData) (now : ℕ) → IsEnd b stage → TickDue (now_at now b) stage
 end_due b stage now is = running_due (now_at now b) stage is.timers (sound_runs b stage is.sound)

@@ -23,13 +23,8 @@ IsNotFrozen stage = Unit {0}
 
 -- the due tick does not look at the clock, but for a frozen end, whose due tick bounds nothing
 in_time : (b : EndRecord) (stage : StateData) (now : ℕ) → IsInTime (due b stage) now → IsNotFrozen stage → IsInTime (due (at now b) stage) now
-in_time b (CrWait w) now h n = h
-in_time b (WaitBeforeClose w) now h n = h
-in_time b (UserWait since) now h n = h
-in_time b (AkWait w) now h n = h
-in_time b (Opened o) now h n = h
-in_time b (Closing c) now h n = h
 in_time b (Frozen when) now h n = absurd n
+in_time b stage now h n = h
 
 -- an event keeps the bounds
 called_lives : (b : EndRecord) (stage : StateData) (now took : ℕ) (call : UserCall) → IsTimed b.timers → Timely b.timers took stage → IsInTime (due b stage) now
@@ -91,18 +86,8 @@ over_by t life h = subst (λ (u : Timers). IsOverBy life.end (life.took + u.inac
 -- what holds by a tick holds by a later one
 pub over_later : (stage : StateData) (next : Option ℕ) (one other : ℕ) → one ≤ other → IsOver stage next one → IsOver stage next other
 over_later (Frozen when) next one other low h = omega arith
-over_later (CrWait w) (Some tick) one other low h = omega arith
-over_later (WaitBeforeClose w) (Some tick) one other low h = omega arith
-over_later (UserWait since) (Some tick) one other low h = omega arith
-over_later (AkWait w) (Some tick) one other low h = omega arith
-over_later (Opened o) (Some tick) one other low h = omega arith
-over_later (Closing c) (Some tick) one other low h = omega arith
-over_later (CrWait w) None one other low h = h
-over_later (WaitBeforeClose w) None one other low h = h
-over_later (UserWait since) None one other low h = h
-over_later (AkWait w) None one other low h = h
-over_later (Opened o) None one other low h = h
-over_later (Closing c) None one other low h = h
+over_later stage (Some tick) one other low h = omega arith
+over_later stage None one other low h = h
 
 IsNever : Bool → Type 0
 IsNever true = ⊥

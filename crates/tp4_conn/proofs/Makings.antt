@@ -2,7 +2,7 @@
 use Rattle.std.proofs.Common.{◌≡◌, ℕ, List, Some, refl, ap}
 use Rattle.tpdu.specs.declared.kind.Kind.TheVariants as kinds
 use Rattle.tpdu.specs.declared.tpdu.Tpdu.{Tpdu}
-use Rattle.tpdu.specs.declared.tpdu.Tpdu.TheVariants.{Cr, Cc, Dr, Dc, Dt, Ed, Ak, Ea, Er}
+use Rattle.tpdu.specs.declared.tpdu.Tpdu.TheVariants.{Cr, Cc}
 use Rattle.tpdu.specs.Writing.{kind_for}
 use Rattle.tp4_flow.specs.Told.{Told}
 use Rattle.tp4_conn.specs.declared.end_record.EndRecord.{EndRecord}
@@ -16,10 +16,4 @@ pub called_now : (now own : ℕ) (from : List ℕ) (rules : Timers) (tpdu : Tpdu
 called_now now own from rules (Cr credit source width calling called size preferred extra version classes ack_time text) b stage was new kind h =
     ap (λ (c : EndRecord). c.clock) (h _ refl).base_is
 called_now now own from rules (Cc _ _ _ _ _ _ _ _ _ _ _ _ _) b stage was new kind h = absurd cc
-called_now now own from rules (Dr _ _ _ _ _) b stage was new kind h = absurd cc
-called_now now own from rules (Dc _ _) b stage was new kind h = absurd cc
-called_now now own from rules (Dt _ _ _ _) b stage was new kind h = absurd cc
-called_now now own from rules (Ed _ _ _ _) b stage was new kind h = absurd cc
-called_now now own from rules (Ak _ _ _ _ _) b stage was new kind h = absurd cc
-called_now now own from rules (Ea _ _) b stage was new kind h = absurd cc
-called_now now own from rules (Er _ _ _) b stage was new kind h = absurd cc
+called_now now own from rules tpdu b stage was new kind h = absurd cc

@@ -5,7 +5,7 @@ use Rattle.tpdu.specs.declared.tpdu.Tpdu.{Tpdu}
 use Rattle.tp4_flow.specs.Told.{Told, Grows}
 use Rattle.tp4_flow.specs.declared.step.EndEvent.{EndEvent}
 use Rattle.tp4_flow.specs.declared.step.Sent.{Sent}
-use Rattle.tp4_sending.specs.FlowSender.{FlowSender, Sendings, Sends, at, opened}
+use Rattle.tp4_sending.specs.SendingHalf.{FlowSender, Sendings, Sends, at, opened}
 use Rattle.tp4_conn.specs.declared.end_record.EndRecord.{EndRecord}
 use Rattle.tp4_conn.specs.declared.halves.Halves.{Halves}
 use Rattle.tp4_conn.specs.declared.states.InOpened.{InOpened}

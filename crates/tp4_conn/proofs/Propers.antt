@@ -8,18 +8,18 @@ use Rattle.tpdu.specs.declared.tpdu.Tpdu.{Tpdu}
 use Rattle.tpdu.specs.declared.tpdu.Tpdu.TheVariants.{Cr, Cc, Dr, Dc, Dt, Ed, Ak, Ea, Er}
 use Rattle.tpdu.specs.Writing.{IsAllowed, IsCredit, IsNumber}
 use Rattle.tp4_number.specs.declared.got.Got.{Got}
-use Rattle.tp4_number.specs.declared.got.Got.TheVariants.{Kept, Old, Outside, TooLarge}
+use Rattle.tp4_number.specs.declared.got.Got.TheVariants.{TooLarge}
 use Rattle.tp4_number.specs.declared.piece.Piece.{Piece}
 use Rattle.tp4_number.specs.Receiver.{judged}
 use Rattle.tp4_number.specs.Number.{wire, ahead}
-use Rattle.tp4_flow.specs.Half.{Half, Received, ak, block_in, dt_arrival, half_after, taken_dt, taken_ed, is_next, half_granted}
+use Rattle.tp4_flow.specs.ReceivingHalf.{Half, Received, ak, block_in, dt_arrival, half_after, taken_dt, taken_ed, is_next, half_granted}
 use Rattle.tp4_flow.specs.declared.rules.Life.{Life as Ends}
 use Rattle.tp4_flow.specs.declared.rules.Life.TheVariants.{Goes, Exhausted}
 use Rattle.tpdu.specs.declared.service.Options.{Options}
 use Rattle.tp4_flow.specs.declared.rules.SubmitRefusal.TheVariants as submits
 use Rattle.tp4_flow.specs.declared.step.EndEvent.{EndEvent}
 use Rattle.tp4_flow.specs.declared.step.Sent.{Sent}
-use Rattle.tp4_sending.specs.FlowSender.{FlowSender, Sendings, at, life_of, opened, urgent_refusal}
+use Rattle.tp4_sending.specs.SendingHalf.{FlowSender, Sendings, at, life_of, opened, urgent_refusal}
 use Rattle.tp4_sending.specs.Settled.{IsSettled}
 use Rattle.tp4_sending.proofs.Dues.{later}
 use Rattle.tp4_sending.proofs.Settles.{new_settled, taken_settled, done_settled, tick_settled}
@@ -133,9 +133,7 @@ arrived_credit h w piece =
 
 dt_row : (got : Got) (b : EndRecord) (o : InOpened) (r : Received) → Steady b → AreOpen b.agreed (record o.halves { receiving = r.half }) → AreSendable r.tpdus → IsProperRow (dt_as got b o r)
 dt_row TooLarge b o r s p fits = led r.events r.tpdus _ fits (protocol_row b s)
-dt_row Kept b o r s p fits = row b _ _ _ s p fits
-dt_row Old b o r s p fits = row b _ _ _ s p fits
-dt_row Outside b o r s p fits = row b _ _ _ s p fits
+dt_row got b o r s p fits = row b _ _ _ s p fits
 
 on_dt_row : (wrap : ℕ → ℕ → ℕ) (b : EndRecord) (o : InOpened) (w : ℕ) (piece : Piece) → Steady b → AreOpen b.agreed o.halves → IsProperRow (on_dt wrap b o w piece)
 on_dt_row wrap b o w piece s p =
@@ -344,8 +342,6 @@ ak_sends b now w x s p sends =
 call_row : (b : EndRecord) (now : ℕ) (stage : StateData) (call : UserCall) → Steady b → IsProperStage b.agreed stage → call_refusal b stage call ≡ None → IsCall call
     → IsProperRow (on_call (base_at now b) stage call)
 call_row b now (CrWait w) (Disconnect octets) s p e c = row (base_at now b) _ _ _ (at_steady now b s) (p, not_long 64 octets e) tt
-call_row b now (CrWait w) other s p e c = row (base_at now b) _ _ _ (at_steady now b s) p tt
-call_row b now (WaitBeforeClose w) call s p e c = row (base_at now b) _ _ _ (at_steady now b s) p tt
 call_row b now (UserWait since) (Accept asked octets) s p e c = accepted_row (base_at now b) asked octets (at_steady now b s) c (not_long 32 octets e)
 call_row b now (UserWait since) (Refuse octets) s p e c = refused_row (base_at now b) octets (at_steady now b s) (not_long 64 octets e)
 call_row b now (UserWait since) other s p e c = row (base_at now b) _ _ _ (at_steady now b s) tt tt
@@ -355,7 +351,6 @@ call_row b now (AkWait w) (Urgent unit) s p e c =
     ak_sends b now w _ s p (urged_fits w.halves.sending.is_open (at now w.halves.sending) unit (ready_self b.agreed w.halves now p.2) u.some u.few)
 call_row b now (AkWait w) (Disconnect octets) s p e c =
     row (base_at now b) _ _ _ (at_steady now b s) (not_long 64 octets e) (dr_fits (base_at now b) b.own 128 octets (not_long 64 octets e))
-call_row b now (AkWait w) other s p e c = row (base_at now b) _ _ _ (at_steady now b s) p tt
 call_row b now (Opened o) (Normal unit) s p e c =
     let h = at now o.halves.sending in
     sending_row (base_at now b) o _ (at_steady now b s) p (submitted_fits true h unit (ready b.agreed o.halves now true p.halves p.is_open))
@@ -368,9 +363,8 @@ call_row b now (Opened o) (Urgent unit) s p e c =
 call_row b now (Opened o) (Window credit) s p e c = granting_row (base_at now b) o credit (at_steady now b s) p
 call_row b now (Opened o) (Disconnect octets) s p e c =
     row (base_at now b) _ _ _ (at_steady now b s) (not_long 64 octets e) (dr_fits (base_at now b) b.own 128 octets (not_long 64 octets e))
-call_row b now (Opened o) other s p e c = row (base_at now b) _ _ _ (at_steady now b s) p tt
-call_row b now (Closing x) call s p e c = row (base_at now b) _ _ _ (at_steady now b s) p tt
 call_row b now (Frozen when) call s p e c = row (base_at now b) _ _ _ (at_steady now b s) tt tt
+call_row b now stage call s p e c = row (base_at now b) _ _ _ (at_steady now b s) p tt
 
 -- each event
 pub step_row : (wrap : ℕ → ℕ → ℕ) (now : ℕ) (e : End) (event : Event) → IsProper e.base e.stage → IsProperEvent e event → IsProperRow (stepped wrap now e event)

@@ -7,8 +7,8 @@ use Rattle.std.proofs.lemmas.Bool.{ltb-false, ltb-true}
 use Rattle.tpdu.specs.declared.tpdu.Tpdu.{Tpdu}
 use Rattle.tpdu.specs.declared.tpdu.Tpdu.TheVariants.{Cc, Dr, Dc, Dt, Ed, Ak, Ea, Er}
 use Rattle.tp4_number.specs.declared.got.Got.{Got}
-use Rattle.tp4_number.specs.declared.got.Got.TheVariants.{Kept, Old, Outside, TooLarge}
-use Rattle.tp4_flow.specs.Half.{Half, Received, dt_arrival, half_granted, taken_dt}
+use Rattle.tp4_number.specs.declared.got.Got.TheVariants.{TooLarge}
+use Rattle.tp4_flow.specs.ReceivingHalf.{Half, Received, dt_arrival, half_granted, taken_dt}
 use Rattle.tp4_flow.specs.Told.{Told}
 use Rattle.tp4_number.specs.Number.{wire}
 use Rattle.tp4_flow.specs.declared.rules.Life.{Life as Ends}
@@ -16,7 +16,7 @@ use Rattle.tp4_flow.specs.declared.rules.Life.TheVariants.{Goes, Exhausted}
 use Rattle.tpdu.specs.declared.service.Options.{Options}
 use Rattle.tp4_flow.specs.declared.step.EndEvent.{EndEvent}
 use Rattle.tp4_flow.specs.declared.step.Sent.{Sent}
-use Rattle.tp4_sending.specs.FlowSender.{FlowSender, Sendings, at, due_of, life_of, new_sends, normals_where, nothing, one_urgent, opened, then_sends}
+use Rattle.tp4_sending.specs.SendingHalf.{FlowSender, Sendings, at, due_of, life_of, new_sends, normals_where, nothing, one_urgent, opened, then_sends}
 use Rattle.tp4_sending.specs.Pieces.{again, sooner}
 use Rattle.tp4_sending.specs.Settled.{IsDue}
 use Rattle.tp4_conn.specs.declared.end_record.EndRecord.{EndRecord}
@@ -137,9 +137,7 @@ acking_waits n b o r = let least : 1 ≤ b.timers.window = r.passes.timed.window
 
 dt_lasts : (got : Got) (n : ℕ) (b : EndRecord) (o : InOpened) (x : Received) → Runs n b o → Lasts b.timers n (dt_as got b o x)
 dt_lasts TooLarge n b o x r = led _ _ x.events x.tpdus _ (closing_now n b _ 133 [] r.passes)
-dt_lasts Kept n b o x r = open_lasts n b _ _ _ (record { took = r.waits.took; acked = acking_waits n b o r; half = r.waits.half })
-dt_lasts Old n b o x r = open_lasts n b _ _ _ (record { took = r.waits.took; acked = acking_waits n b o r; half = r.waits.half })
-dt_lasts Outside n b o x r = open_lasts n b _ _ _ (record { took = r.waits.took; acked = acking_waits n b o r; half = r.waits.half })
+dt_lasts got n b o x r = open_lasts n b _ _ _ (record { took = r.waits.took; acked = acking_waits n b o r; half = r.waits.half })
 
 calm_at : (n : ℕ) (b : EndRecord) (o : InOpened) → Runs n b o → IsCalm n (at b.clock o.halves.sending)
 calm_at n b o r = calm n (at b.clock o.halves.sending) r.is_open r.t1 r.passes.bound r.waits.half
@@ -238,13 +236,9 @@ MaySend (Opened o) = (o.halves.sending.is_open ≡ true) × (1 ≤ o.halves.send
 MaySend stage = Unit {0}
 
 may_send : (b : EndRecord) (stage : StateData) → IsSound b stage → MaySend stage
-may_send b (CrWait w) s = tt
-may_send b (WaitBeforeClose w) s = tt
-may_send b (UserWait since) s = tt
 may_send b (AkWait w) s = s.2.t1
 may_send b (Opened o) s = (s.3, s.2.t1)
-may_send b (Closing c) s = tt
-may_send b (Frozen when) s = tt
+may_send b stage s = tt
 
 running : (n : ℕ) (b : EndRecord) (o : InOpened) → Passes b.timers n b.clock → MaySend (Opened o) → (IsDue (due b (Opened o)) n → ⊥) → Runs n b o
 running n b o p sends low = record { passes = p; is_open = sends.0; t1 = sends.1; waits = parts _ _ (due_of o.halves.sending) n low }
@@ -312,11 +306,8 @@ shut_waits t w s shut window out u =
 pub call_lasts : (n : ℕ) (b : EndRecord) (stage : StateData) (call : UserCall) → Passes b.timers n b.clock → MaySend stage → IsWaiting b.timers stage → (IsDue (due b stage) n → ⊥)
     → Lasts b.timers n (on_call b stage call)
 call_lasts n b (CrWait w) (Disconnect octets) p sends u low = record { timers = refl; waiting = tt; late = low }
-call_lasts n b (CrWait w) other p sends u low = record { timers = refl; waiting = tt; late = low }
-call_lasts n b (WaitBeforeClose w) call p sends u low = record { timers = refl; waiting = tt; late = low }
 call_lasts n b (UserWait since) (Accept asked octets) p sends u low = accepted_lasts n b asked octets p
 call_lasts n b (UserWait since) (Refuse octets) p sends u low = refused_lasts n b octets p.bound
-call_lasts n b (UserWait since) other p sends u low = record { timers = refl; waiting = tt; late = low }
 call_lasts n b (AkWait w) (Normal unit) p sends u low =
     record { timers = refl; waiting = shut_waits b.timers w _ u.shut u.window u.urgent u; late = low }
 call_lasts n b (AkWait w) (Urgent unit) p sends u low =
@@ -329,9 +320,7 @@ call_lasts n b (Opened o) (Urgent unit) p sends u low =
     let r = running n b o p sends low in sending_lasts n b o _ r (urged_late n (at b.clock o.halves.sending) unit (calm_at n b o r))
 call_lasts n b (Opened o) (Window credit) p sends u low = granting_lasts n b o _ (running n b o p sends low)
 call_lasts n b (Opened o) (Disconnect octets) p sends u low = closing_now n b [] 128 octets p
-call_lasts n b (Opened o) other p sends u low = record { timers = refl; waiting = tt; late = low }
-call_lasts n b (Closing x) call p sends u low = record { timers = refl; waiting = tt; late = low }
-call_lasts n b (Frozen when) call p sends u low = record { timers = refl; waiting = tt; late = low }
+call_lasts n b stage call p sends u low = record { timers = refl; waiting = tt; late = low }
 
 -- ---- a tick
 
@@ -385,12 +374,7 @@ tick_keeps b (Frozen when) u soon = record { timers = refl; waiting = tt }
 
 late_at : (n : ℕ) (b : EndRecord) (stage : StateData) (now : ℕ) → n ≤ now → (IsDue (due b stage) n → ⊥) → IsDue (due (base_at now b) stage) n → ⊥
 late_at n b (Frozen when) now bound low = frozen_late n (base_at now b) when bound
-late_at n b (CrWait w) now bound low = low
-late_at n b (WaitBeforeClose w) now bound low = low
-late_at n b (UserWait since) now bound low = low
-late_at n b (AkWait w) now bound low = low
-late_at n b (Opened o) now bound low = low
-late_at n b (Closing c) now bound low = low
+late_at n b stage now bound low = low
 
 pub call_late : (n now : ℕ) (b : EndRecord) (stage : StateData) (call : UserCall) → IsTimed b.timers → MaySend stage → IsWaiting b.timers stage → n ≤ now → (IsDue (due b stage) n → ⊥)
     → Lasts b.timers n (on_call (base_at now b) stage call)
@@ -426,31 +410,19 @@ in_time_not (Some tick) n now low h k = absurd (omega (arith, low, h, k))
 
 opened_waits : (wrap : ℕ → ℕ → ℕ) (t : Timers) (b : EndRecord) (o : InOpened) (tpdu : Tpdu) → IsWaiting t (opened_tpdu wrap b o tpdu).stage
 unfolding opened_tpdu
-opened_waits wrap t b o (Cc credit destination source width calling called size preferred extra version classes ack_time text) = tt
-opened_waits wrap t b o (Dr destination source reason info text) = tt
-opened_waits wrap t b o (Er destination cause rejected) = tt
 opened_waits wrap t b o (Dt destination last number text) = by (dt_arrival o.halves.receiving number (record { last = last; octets = text })).got
   where
     by : (got : Got) → IsWaiting t (dt_as got b o (taken_dt wrap o.halves.receiving number (record { last = last; octets = text }))).stage
     by TooLarge = tt
-    by Kept = tt
-    by Old = tt
-    by Outside = tt
+    by got = tt
 opened_waits wrap t b o (Ed destination last number text) = if_kept (λ (m : Moved). IsWaiting t m.stage) (is_expedited b.agreed) _ _ (λ _. tt) (λ _. tt)
-opened_waits wrap t b o (Ak destination number credit subsequence confirmation) = tt
-opened_waits wrap t b o (Ea destination number) = tt
 opened_waits wrap t b o other = tt
 
 tpdu_waits : (wrap : ℕ → ℕ → ℕ) (t : Timers) (b : EndRecord) (stage : StateData) (tpdu : Tpdu) → IsWaiting t stage → IsWaiting t (on_tpdu wrap b stage tpdu).stage
 unfolding cr_wait_tpdu wait_before_close_tpdu ak_wait_tpdu closing_tpdu
 tpdu_waits wrap t b (CrWait w) (Cc credit destination source width calling called size preferred extra version classes ack_time text) u =
     if_kept (λ (m : Moved). IsWaiting t m.stage) (is_within b.proposed width size preferred extra) _ _ (λ _. tt) (λ _. tt)
-tpdu_waits wrap t b (CrWait w) (Dr destination source reason info text) u = tt
-tpdu_waits wrap t b (CrWait w) other u = tt
 tpdu_waits wrap t b (WaitBeforeClose w) (Cc credit destination source width calling called size preferred extra version classes ack_time text) u = tt
-tpdu_waits wrap t b (WaitBeforeClose w) (Dr destination source reason info text) u = tt
-tpdu_waits wrap t b (WaitBeforeClose w) other u = tt
-tpdu_waits wrap t b (UserWait since) tpdu u = tt
 tpdu_waits wrap t b (AkWait w) (Ak destination number credit subsequence confirmation) u = opened_waits wrap t b _ (Ak destination number credit subsequence confirmation)
 tpdu_waits wrap t b (AkWait w) (Dt destination last number text) u = opened_waits wrap t b _ (Dt destination last number text)
 tpdu_waits wrap t b (AkWait w) (Ed destination last number text) u = opened_waits wrap t b _ (Ed destination last number text)
@@ -460,28 +432,18 @@ tpdu_waits wrap t b (AkWait w) (Er destination cause rejected) u = tt
 tpdu_waits wrap t b (AkWait w) other u = u
 tpdu_waits wrap t b (Opened o) tpdu u = opened_waits wrap t b (hearing b o) tpdu
 tpdu_waits wrap t b (Closing c) (Dc destination source) u = tt
-tpdu_waits wrap t b (Closing c) (Dr destination source cause info text) u = tt
-tpdu_waits wrap t b (Closing c) other u = tt
-tpdu_waits wrap t b (Frozen when) tpdu u = tt
+tpdu_waits wrap t b stage tpdu u = tt
 
 call_waits : (b : EndRecord) (stage : StateData) (call : UserCall) → IsTimed b.timers → IsWaiting b.timers stage → IsWaiting b.timers (on_call b stage call).stage
 call_waits b (CrWait w) (Disconnect octets) timed u = tt
-call_waits b (CrWait w) other timed u = tt
-call_waits b (WaitBeforeClose w) call timed u = tt
 call_waits b (UserWait since) (Accept asked octets) timed u = accept_waits b asked octets timed
 call_waits b (UserWait since) (Refuse octets) timed u = refuse_waits b octets
-call_waits b (UserWait since) other timed u = tt
 call_waits b (AkWait w) (Normal unit) timed u = shut_waits b.timers w _ u.shut u.window u.urgent u
 call_waits b (AkWait w) (Urgent unit) timed u = shut_waits b.timers w _ u.shut u.window u.urgent u
 call_waits b (AkWait w) (Disconnect octets) timed u = tt
 call_waits b (AkWait w) other timed u = u
-call_waits b (Opened o) (Normal unit) timed u = tt
-call_waits b (Opened o) (Urgent unit) timed u = tt
 call_waits b (Opened o) (Window credit) timed u = if_kept (λ (m : Moved). IsWaiting b.timers m.stage) ((half_granted o.halves.receiving credit).receiver.inbox.credit == o.halves.receiving.receiver.inbox.credit) _ _ (λ _. tt) (λ _. tt)
-call_waits b (Opened o) (Disconnect octets) timed u = tt
-call_waits b (Opened o) other timed u = tt
-call_waits b (Closing x) call timed u = tt
-call_waits b (Frozen when) call timed u = tt
+call_waits b stage call timed u = tt
 
 -- ---- by what a call says that it did
 

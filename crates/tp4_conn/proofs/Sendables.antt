@@ -6,16 +6,16 @@ use Rattle.tpdu.specs.declared.tpdu.Format.{Format}
 use Rattle.tpdu.specs.declared.tpdu.Format.TheVariants.{Normal, Extended}
 use Rattle.tpdu.specs.Writing.{IsNumber, IsCredit}
 use Rattle.tp4_number.specs.declared.got.Got.{Got}
-use Rattle.tp4_number.specs.declared.got.Got.TheVariants.{Kept, Old, Outside, TooLarge}
+use Rattle.tp4_number.specs.declared.got.Got.TheVariants.{Kept, TooLarge}
 use Rattle.tp4_number.specs.declared.piece.Piece.{Piece}
 use Rattle.tp4_number.specs.Formats.{block_of}
 use Rattle.tp4_number.specs.Number.{wire, near}
 use Rattle.tp4_number.specs.Receiver.{Inbox, arrived_as}
-use Rattle.tp4_flow.specs.Half.{Half, ak, aks, ea, taken_ed, is_next, is_before, half_granted, allowed}
+use Rattle.tp4_flow.specs.ReceivingHalf.{Half, ak, aks, ea, taken_ed, is_next, is_before, half_granted, allowed}
 use Rattle.tp4_flow.specs.declared.rules.Life.{Life}
 use Rattle.tp4_flow.specs.declared.rules.Life.TheVariants.{Goes, Exhausted}
 use Rattle.tp4_flow.specs.declared.step.Sent.{Sent}
-use Rattle.tp4_sending.specs.FlowSender.{FlowSender, Sendings, nothing, before, then_sends, rule_allows, is_noted, is_urgent, has_next, dts, dts_of, eds, all_dts, due_numbers, sent_normal, normals, normals_where, one_urgent, resends, resends_urgent, resends_urgent_as, new_sends, opened, submitted, urged, acknowledged, acknowledged_to, is_taken, urgent_done, is_outstanding, ticked, ticked_as, life_of, block_in}
+use Rattle.tp4_sending.specs.SendingHalf.{FlowSender, Sendings, nothing, before, then_sends, rule_allows, is_noted, is_urgent, has_next, dts, dts_of, eds, all_dts, due_numbers, sent_normal, normals, normals_where, one_urgent, resends, resends_urgent, resends_urgent_as, new_sends, opened, submitted, urged, acknowledged, acknowledged_to, is_taken, urgent_done, is_outstanding, ticked, ticked_as, life_of, block_in}
 use Rattle.tp4_sending.specs.Pieces.{end_of, is_due}
 use Rattle.tp4_sending.specs.declared.tries.Tries.{Tries}
 use Rattle.tp4_conn.specs.Proper.{AreSendable, AreExpedited}
@@ -154,17 +154,13 @@ pub ak_fits : (h : Half) → IsCredit h.rules.format h.receiver.inbox.credit →
 ak_fits h credit = ((refl, (wire_fits h.rules.format h.receiver.expected, credit)), tt)
 
 pub aks_fit : (got : Got) (h : Half) → IsCredit h.rules.format h.receiver.inbox.credit → AreSendable (aks got h)
-aks_fit Kept h credit = ak_fits h credit
-aks_fit Old h credit = ak_fits h credit
-aks_fit Outside h credit = ak_fits h credit
 aks_fit TooLarge h credit = tt
+aks_fit got h credit = ak_fits h credit
 
 -- a DT leaves the credit
 pub same_credit : (got : Got) (inbox : Inbox) (d : ℕ) (piece : Piece) → (arrived_as got inbox d piece).inbox.credit ≡ inbox.credit
 same_credit Kept inbox d piece = refl
-same_credit Old inbox d piece = refl
-same_credit Outside inbox d piece = refl
-same_credit TooLarge inbox d piece = refl
+same_credit got inbox d piece = refl
 
 pub ea_fits : (wrap : ℕ → ℕ → ℕ) (h : Half) (w : ℕ) (octets : List ℕ) → IsNumber h.rules.format w → AreSendable (taken_ed wrap h w octets).tpdus
 ea_fits wrap h w octets fits = if_kept AreSendable (is_next h w || is_before h w) (ea h w ∷ []) [] (λ _. ((tt, fits), tt)) (λ _. tt)

@@ -2,10 +2,10 @@
 use Rattle.std.proofs.Common.{◌≡◌, ℕ, Bool, true, false, length, List, Option, Some, None, refl, sym, subst}
 use Rattle.tp4_flow.specs.declared.rules.SubmitRefusal.{SubmitRefusal}
 use Rattle.tp4_flow.specs.declared.rules.SubmitRefusal.TheVariants.{EmptyUnit, TooLong, QueueFull}
-use Rattle.tp4_sending.specs.FlowSender.{refusal, urgent_refusal}
+use Rattle.tp4_sending.specs.SendingHalf.{refusal, urgent_refusal}
 use Rattle.tp4_conn.specs.declared.end_record.EndRecord.{EndRecord}
 use Rattle.tp4_conn.specs.declared.call.UserCall.{UserCall}
-use Rattle.tp4_conn.specs.declared.call.UserCall.TheVariants.{Accept, Refuse, Normal, Urgent, Window, Disconnect}
+use Rattle.tp4_conn.specs.declared.call.UserCall.TheVariants.{Accept, Normal, Urgent}
 use Rattle.tp4_conn.specs.declared.halves.Halves.{Halves}
 use Rattle.tp4_conn.specs.declared.states.InAkWait.{InAkWait}
 use Rattle.tp4_conn.specs.declared.states.InOpened.{InOpened}
@@ -17,11 +17,7 @@ use Rattle.tp4_conn.specs.Table.{at}
 
 pub refused_later : (now : ℕ) (b : EndRecord) (stage : StateData) (call : UserCall) → call_refusal b stage call ≡ None → call_refusal (at now b) stage call ≡ None
 refused_later now b stage (Accept asked octets) e = e
-refused_later now b stage (Refuse octets) e = e
-refused_later now b stage (Normal unit) e = e
-refused_later now b stage (Urgent unit) e = e
-refused_later now b stage (Window credit) e = e
-refused_later now b stage (Disconnect octets) e = e
+refused_later now b stage call e = e
 
 taken : (why : Option SubmitRefusal) → unit_refusal why ≡ None → why ≡ None
 taken None e = refl

@@ -6,19 +6,19 @@ use Rattle.std.proofs.lemmas.Bool.{ltb-true}
 use Rattle.tpdu.specs.declared.tpdu.Tpdu.{Tpdu}
 use Rattle.tpdu.specs.declared.tpdu.Tpdu.TheVariants.{Cc, Dr, Dc, Dt, Ed, Ak, Ea, Er}
 use Rattle.tp4_number.specs.declared.got.Got.{Got}
-use Rattle.tp4_number.specs.declared.got.Got.TheVariants.{Kept, Old, Outside, TooLarge}
-use Rattle.tp4_flow.specs.Half.{Half, Received}
+use Rattle.tp4_number.specs.declared.got.Got.TheVariants.{TooLarge}
+use Rattle.tp4_flow.specs.ReceivingHalf.{Half, Received}
 use Rattle.tp4_flow.specs.declared.rules.Life.{Life as Ends}
 use Rattle.tp4_flow.specs.declared.rules.Life.TheVariants.{Goes, Exhausted}
 use Rattle.tpdu.specs.declared.service.Options.{Options}
 use Rattle.tp4_flow.specs.declared.step.EndEvent.{EndEvent}
 use Rattle.tp4_flow.specs.declared.step.Sent.{Sent}
-use Rattle.tp4_sending.specs.FlowSender.{at, life_of, due_of}
+use Rattle.tp4_sending.specs.SendingHalf.{at, life_of, due_of}
 use Rattle.tp4_sending.specs.Pieces.{sooner}
 use Rattle.tp4_sending.specs.declared.tries.Tries.{Tries}
 use Rattle.tp4_conn.specs.declared.end_record.EndRecord.{EndRecord}
 use Rattle.tp4_conn.specs.declared.call.UserCall.{UserCall}
-use Rattle.tp4_conn.specs.declared.call.UserCall.TheVariants.{Accept, Refuse, Normal, Urgent, Window, Disconnect}
+use Rattle.tp4_conn.specs.declared.call.UserCall.TheVariants.{Accept, Refuse, Window, Disconnect}
 use Rattle.tp4_conn.specs.declared.states.InAkWait.{InAkWait}
 use Rattle.tp4_conn.specs.declared.states.InOpened.{InOpened}
 use Rattle.tp4_conn.specs.declared.states.InWaitBeforeClose.{InWaitBeforeClose}
@@ -85,9 +85,7 @@ wait_tpdu b w other took low h = record { timers = refl; timely = later _ _ _ _ 
 
 dt_holds : (got : Got) (b : EndRecord) (o : InOpened) (r : Received) → o.took ≤ b.clock → Holds b.timers b.clock (dt_as got b o r)
 dt_holds TooLarge b o r low = record { timers = refl; timely = omega arith }
-dt_holds Kept b o r low = record { timers = refl; timely = omega arith }
-dt_holds Old b o r low = record { timers = refl; timely = omega arith }
-dt_holds Outside b o r low = record { timers = refl; timely = omega arith }
+dt_holds got b o r low = record { timers = refl; timely = omega arith }
 
 opened_takes : (wrap : ℕ → ℕ → ℕ) (b : EndRecord) (o : InOpened) (tpdu : Tpdu) → o.took ≤ b.clock → Holds b.timers b.clock (opened_tpdu wrap b o tpdu)
 unfolding opened_tpdu
@@ -245,11 +243,7 @@ pub call_holds : (b : EndRecord) (stage : StateData) (call : UserCall) (took : �
 call_holds b (CrWait w) (Disconnect octets) took t h soon = record { timers = refl; timely = h }
 call_holds b (UserWait since) (Accept asked octets) took t h soon = accept_holds b asked octets took t (omega arith)
 call_holds b (UserWait since) (Refuse octets) took t h soon = refuse_holds b octets took (omega arith)
-call_holds b (AkWait w) (Normal unit) took t h soon = record { timers = refl; timely = h }
-call_holds b (AkWait w) (Urgent unit) took t h soon = record { timers = refl; timely = h }
 call_holds b (AkWait w) (Disconnect octets) took t h soon = record { timers = refl; timely = h.0 }
-call_holds b (Opened o) (Normal unit) took t h soon = record { timers = refl; timely = h }
-call_holds b (Opened o) (Urgent unit) took t h soon = record { timers = refl; timely = h }
 call_holds b (Opened o) (Window credit) took t h soon = grant_holds b o _ took h
 call_holds b (Opened o) (Disconnect octets) took t h soon =
     let low : b.clock ≤ o.took + b.timers.inactive = opened_soon b o soon in record { timers = refl; timely = omega arith }

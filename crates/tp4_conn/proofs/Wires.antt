@@ -7,9 +7,9 @@ use Rattle.tp4_number.specs.Formats.{block_of}
 use Rattle.tp4_number.specs.Number.{whole, wire}
 use Rattle.tp4_number.specs.Receiver.{Arrived}
 use Rattle.tp4_number.specs.declared.got.Got.{Got}
-use Rattle.tp4_number.specs.declared.got.Got.TheVariants.{Kept, Old, Outside, TooLarge}
+use Rattle.tp4_number.specs.declared.got.Got.TheVariants.{TooLarge}
 use Rattle.tp4_number.specs.declared.piece.Piece.{Piece}
-use Rattle.tp4_flow.specs.Half.{Half, Received, IsOnWire, on_wire, dt_arrival, taken_dt, empty, half_granted}
+use Rattle.tp4_flow.specs.ReceivingHalf.{Half, Received, IsOnWire, on_wire, dt_arrival, taken_dt, empty, half_granted}
 use Rattle.tp4_flow.specs.declared.rules.FlowRules.{FlowRules}
 use Rattle.tp4_flow.specs.declared.rules.Life.{Life as Ends}
 use Rattle.tp4_flow.specs.declared.rules.Life.TheVariants.{Goes, Exhausted as Spent}
@@ -18,7 +18,7 @@ use Rattle.tp4_flow.specs.declared.step.EndEvent.{EndEvent}
 use Rattle.tpdu.specs.declared.service.GoneCause.TheVariants.{Protocol, Exhausted, Inactive, AnswerTime}
 use Rattle.tp4_flow.specs.declared.step.Sent.{Sent}
 use Rattle.tp4_flow.proofs.Wires.{ak_on, arrival_on, dt_on, ed_on}
-use Rattle.tp4_sending.specs.FlowSender.{at, opened, ticked, life_of, fresh}
+use Rattle.tp4_sending.specs.SendingHalf.{at, opened, ticked, life_of, fresh}
 use Rattle.tp4_sending.specs.Pieces.{once, again}
 use Rattle.tp4_conn.specs.declared.end_record.EndRecord.{EndRecord}
 use Rattle.tp4_conn.specs.declared.call.UserCall.{UserCall}
@@ -79,9 +79,7 @@ dt_as_same TooLarge b o r on e = record {
   events = ap (λ (x : List EndEvent). x ++ gone b Protocol []) e.events;
   tpdus = ap (λ (x : List Sent). x ++ release b 133 [] ∷ []) e.tpdus;
 }
-dt_as_same Kept b o r on e = received_same b (acking b o) r on e
-dt_as_same Old b o r on e = received_same b (acking b o) r on e
-dt_as_same Outside b o r on e = received_same b (acking b o) r on e
+dt_as_same got b o r on e = received_same b (acking b o) r on e
 
 dt_same : (b : EndRecord) (o : InOpened) (w : ℕ) (piece : Piece) → Same (on_dt whole b o w piece) (on_dt wire b (open_on o) w piece)
 dt_same b o w piece =
@@ -270,12 +268,7 @@ untaken_same false now b stage tpdu = tpdu_same (now_at now b) stage tpdu
 
 wants_same : (b : EndRecord) (stage : StateData) (tpdu : Tpdu) → wants_sum b (stage_on_wire stage) tpdu ≡ wants_sum b stage tpdu
 wants_same b (CrWait w) tpdu = refl
-wants_same b (WaitBeforeClose w) tpdu = refl
-wants_same b (UserWait since) tpdu = refl
-wants_same b (AkWait w) tpdu = refl
-wants_same b (Opened o) tpdu = refl
-wants_same b (Closing c) tpdu = refl
-wants_same b (Frozen when) tpdu = refl
+wants_same b stage tpdu = refl
 
 takes_same : (now : ℕ) (b : EndRecord) (stage : StateData) (tpdu : Tpdu) (sum : Bool)
     → Same (takes whole now b stage tpdu sum) (takes wire now b (stage_on_wire stage) tpdu sum)

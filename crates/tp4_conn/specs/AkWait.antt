@@ -3,7 +3,7 @@ use Rattle.std.specs.Prelude.{ℕ, ◌+◌, nat_lt, List, [], if◌then◌else�
 use Rattle.tpdu.specs.declared.tpdu.Tpdu.{Tpdu}
 use Rattle.tpdu.specs.declared.tpdu.Tpdu.TheVariants.{Dr, Dt, Ed, Ak, Ea, Er}
 use Rattle.tpdu.specs.declared.service.GoneCause.TheVariants.{Reason, Protocol, Exhausted}
-use Rattle.tp4_sending.specs.FlowSender.{Sendings, at, opened, submitted, urged}
+use Rattle.tp4_sending.specs.SendingHalf.{Sendings, at, opened, submitted, urged}
 use Rattle.tp4_sending.specs.Pieces.{again}
 use Rattle.tp4_conn.specs.declared.end_record.EndRecord.{EndRecord}
 use Rattle.tp4_conn.specs.declared.halves.Halves.{Halves}

@@ -2,7 +2,7 @@
 use Rattle.std.specs.Prelude.{◌≤◌, ℕ, Bool, true, false, nat_lt, List, length, Option, Some, None, if◌then◌else◌}
 use Rattle.tp4_flow.specs.declared.rules.SubmitRefusal.{SubmitRefusal}
 use Rattle.tp4_flow.specs.declared.rules.SubmitRefusal.TheVariants as submits
-use Rattle.tp4_sending.specs.FlowSender.{FlowSender, refusal, urgent_refusal}
+use Rattle.tp4_sending.specs.SendingHalf.{FlowSender, refusal, urgent_refusal}
 use Rattle.tp4_conn.specs.declared.end_record.EndRecord.{EndRecord}
 use Rattle.tp4_conn.specs.declared.call.CallRefusal.{CallRefusal}
 use Rattle.tp4_conn.specs.declared.call.CallRefusal.TheVariants as refused

@@ -2,11 +2,11 @@
 use Rattle.std.specs.Prelude.{ℕ, ◌+◌, nat_lt, List, [], ◌∷◌, ◌++◌, Some, if◌then◌else◌}
 use Rattle.tpdu.specs.declared.tpdu.Tpdu.{Tpdu}
 use Rattle.tpdu.specs.declared.tpdu.Tpdu.TheVariants.{Cc, Dr}
-use Rattle.tp4_flow.specs.Half.{ak}
+use Rattle.tp4_flow.specs.ReceivingHalf.{ak}
 use Rattle.tpdu.specs.declared.service.Options.{Options}
 use Rattle.tpdu.specs.declared.service.GoneCause.TheVariants.{Reason, Protocol, Exhausted}
 use Rattle.tpdu.specs.declared.service.EndTold.TheVariants.{Confirm}
-use Rattle.tp4_sending.specs.FlowSender.{at, opened}
+use Rattle.tp4_sending.specs.SendingHalf.{at, opened}
 use Rattle.tp4_sending.specs.Pieces.{again}
 use Rattle.tp4_conn.specs.declared.end_record.EndRecord.{EndRecord}
 use Rattle.tp4_conn.specs.declared.halves.Halves.{Halves}

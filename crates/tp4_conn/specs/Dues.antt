@@ -1,6 +1,6 @@
 -- When an end is due: before that tick a tick changes its clock alone, and from it on more; after one it is due later, or no more.
 use Rattle.std.specs.Prelude.{◌≡◌, ◌≢◌, ◌<◌, ◌≤◌, ℕ, true, Option, Some, None}
-use Rattle.tp4_sending.specs.FlowSender.{at}
+use Rattle.tp4_sending.specs.SendingHalf.{at}
 use Rattle.tp4_sending.specs.Settled.{IsDue as HasCome}
 use Rattle.tp4_conn.specs.declared.end_record.EndRecord.{EndRecord}
 use Rattle.tp4_conn.specs.declared.states.StateData.{StateData}

@@ -5,13 +5,13 @@ use Rattle.tpdu.specs.declared.tpdu.Tpdu.TheVariants.{Cc, Dr, Dt, Ed, Ak, Ea, Er
 use Rattle.tp4_number.specs.declared.got.Got.{Got}
 use Rattle.tp4_number.specs.declared.got.Got.TheVariants.{Kept, Old, Outside, TooLarge}
 use Rattle.tp4_number.specs.declared.piece.Piece.{Piece}
-use Rattle.tp4_flow.specs.Half.{Half, Received, ak, dt_arrival, taken_dt, taken_ed, half_granted}
+use Rattle.tp4_flow.specs.ReceivingHalf.{Half, Received, ak, dt_arrival, taken_dt, taken_ed, half_granted}
 use Rattle.tp4_flow.specs.declared.rules.Life.{Life}
 use Rattle.tp4_flow.specs.declared.rules.Life.TheVariants.{Goes, Exhausted}
 use Rattle.tpdu.specs.declared.service.Options.{Options}
 use Rattle.tpdu.specs.declared.service.GoneCause.TheVariants.{Reason, Protocol, Inactive, Exhausted as Spent}
 use Rattle.tpdu.specs.declared.service.EndTold.TheVariants.{Window}
-use Rattle.tp4_sending.specs.FlowSender.{Sendings, at, submitted, urged, acknowledged, urgent_done, life_of, ticked}
+use Rattle.tp4_sending.specs.SendingHalf.{Sendings, at, submitted, urged, acknowledged, urgent_done, life_of, ticked}
 use Rattle.tp4_conn.specs.declared.end_record.EndRecord.{EndRecord}
 use Rattle.tp4_conn.specs.declared.states.InOpened.{InOpened}
 use Rattle.tp4_conn.specs.declared.states.StateData.TheVariants.{Opened}

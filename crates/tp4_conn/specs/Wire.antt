@@ -1,5 +1,5 @@
 -- An end as the code keeps it: the two numbers that its receiving half expects, as they stand on the wire.
-use Rattle.tp4_flow.specs.Half.{on_wire}
+use Rattle.tp4_flow.specs.ReceivingHalf.{on_wire}
 use Rattle.tp4_conn.specs.declared.halves.Halves.{Halves}
 use Rattle.tp4_conn.specs.declared.states.StateData.{StateData}
 use Rattle.tp4_conn.specs.declared.states.StateData.TheVariants.{AkWait, Opened}

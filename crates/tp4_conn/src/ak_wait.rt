@@ -11,7 +11,8 @@ ghost use Rattle.tp4_conn.specs.End.{Does, agreed_format};
 ghost use Rattle.tp4_conn.specs.Table.{on_call};
 ghost use Rattle.tp4_conn.specs.steps.Kept.{IsEnd, IsSound};
 
-use crate::end_record::{EndRecord, PROTOCOL_ERROR, copied};
+use crate::end_record::{EndRecord, copied};
+use crate::release::PROTOCOL_ERROR;
 use crate::{InAkWait, InOpened, StateData, UserCall, opened};
 use osi_base::NoMemory;
 use std::alloc::Global;

@@ -8,8 +8,9 @@ ghost use Rattle.tp4_conn.specs.CrWait.{cr_wait_tpdu, cr_wait_tick, confirmed};
 ghost use Rattle.tp4_conn.specs.End.{Does, IsSized, IsTimed, agreed_format};
 ghost use Rattle.tp4_conn.specs.steps.Kept.{IsEnd, IsKept, IsSound};
 
-use crate::end_record::{EndRecord, PROTOCOL_ERROR, copied};
+use crate::end_record::{EndRecord, copied};
 use crate::proposed::{is_within, options_in};
+use crate::release::PROTOCOL_ERROR;
 use crate::{InCrWait, InOpened, StateData};
 use osi_base::NoMemory;
 use std::alloc::Global;

@@ -4,7 +4,7 @@ ghost use Rattle.std.specs.Prelude.{◌≡◌, ◌≤◌, IfOk, None, OnOk, leng
 ghost use Rattle.std.specs.Borrow.{Lends, sem};
 ghost use Rattle.tp4_conn.specs.contracts.halves.BoxedHalves.{the_row};
 ghost use Rattle.tp4_conn.specs.contracts.halves.Halves.{the_row as halves_row};
-ghost use Rattle.tp4_sending.specs.FlowSender.{Keeps, Sends, at, refusal, submitted, urged, urgent_refusal};
+ghost use Rattle.tp4_sending.specs.SendingHalf.{Keeps, Sends, at, refusal, submitted, urged, urgent_refusal};
 ghost use Rattle.tp4_conn.specs.Agreeing.{flow_rules, halves_of};
 ghost use Rattle.tp4_conn.specs.End.{IsTimed, IsSized};
 

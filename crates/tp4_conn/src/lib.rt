@@ -15,6 +15,7 @@ mod matching;
 mod opened;
 mod proposed;
 mod refusal;
+mod release;
 mod state_table;
 mod states;
 mod timers;

@@ -12,8 +12,9 @@ ghost use Rattle.tp4_conn.specs.Opened.{opened_tpdu, opened_tick, opened_window,
 ghost use Rattle.tp4_conn.specs.Table.{on_call};
 ghost use Rattle.tp4_conn.specs.steps.Kept.{IsEnd, IsSound};
 
-use crate::end_record::{EndRecord, NORMAL, PROTOCOL_ERROR, copied};
+use crate::end_record::{EndRecord, copied};
 use crate::inactivity::is_inactive;
+use crate::release::{NORMAL, PROTOCOL_ERROR};
 use crate::{InOpened, StateData, UserCall};
 use osi_base::NoMemory;
 use std::alloc::Global;

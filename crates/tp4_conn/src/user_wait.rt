@@ -6,9 +6,10 @@ ghost use Rattle.tp4_conn.specs.End.{Does, IsSized};
 ghost use Rattle.tp4_conn.specs.UserWait.{user_wait_accept, user_wait_refuse, user_wait_tick, refusing};
 ghost use Rattle.tp4_conn.specs.steps.Kept.{IsEnd, IsKept, IsSound};
 
-use crate::end_record::{EndRecord, NORMAL, copied};
+use crate::end_record::{EndRecord, copied};
 use crate::inactivity::is_inactive;
 use crate::proposed::agreed_by;
+use crate::release::NORMAL;
 use crate::{InAkWait, StateData};
 use osi_base::{Bytes, NoMemory, Tick};
 use std::alloc::Global;

@@ -7,7 +7,8 @@ ghost use Rattle.tp4_conn.specs.End.{Does};
 ghost use Rattle.tp4_conn.specs.WaitBeforeClose.{wait_before_close_tpdu, wait_before_close_tick};
 ghost use Rattle.tp4_conn.specs.steps.Kept.{IsEnd, IsKept, IsSound};
 
-use crate::end_record::{EndRecord, NORMAL};
+use crate::end_record::EndRecord;
+use crate::release::NORMAL;
 use crate::{InWaitBeforeClose, StateData};
 use osi_base::NoMemory;
 use std::alloc::Global;

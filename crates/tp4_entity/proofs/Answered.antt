@@ -7,7 +7,7 @@ use Rattle.tpdu.specs.declared.tpdu.Tpdu.{Tpdu}
 use Rattle.tpdu.specs.declared.tpdu.Tpdu.TheVariants.{Cr, Cc, Dr, Dc, Dt, Ed, Ak, Ea, Er}
 use Rattle.tp4_conn.specs.declared.end_record.EndRecord.{EndRecord}
 use Rattle.tp4_conn.specs.declared.states.StateData.{StateData}
-use Rattle.tp4_conn.specs.declared.states.StateData.TheVariants.{CrWait, WaitBeforeClose, UserWait, AkWait, Opened, Closing, Frozen}
+use Rattle.tp4_conn.specs.declared.states.StateData.TheVariants.{CrWait}
 use Rattle.tp4_conn.specs.AkWait.{ak_wait_tpdu}
 use Rattle.tp4_conn.specs.Closing.{closing_tpdu}
 use Rattle.tp4_conn.specs.CrWait.{cr_wait_tpdu}
@@ -34,13 +34,7 @@ unmatched_dr wrap now e from destination source reason info text sum false is =
 unmatched_meets : (wrap : ℕ → ℕ → ℕ) (now : ℕ) (e : Entity) (from : List ℕ) (tpdu : Tpdu) (sum : Bool) → Meets wrap now e from (tpdu, sum) (unmatched e from tpdu)
 unmatched_meets wrap now e from (Cc credit destination source width calling called size preferred extra version classes ack_time text) sum = Answers (refusal from source 132) (Refused source 132 refl refl) refl refl
 unmatched_meets wrap now e from (Dr destination source reason info text) sum = unmatched_dr wrap now e from destination source reason info text sum (source == 0) refl
-unmatched_meets wrap now e from (Cr credit source width calling called size preferred extra version classes ack_time text) sum = Quiet refl
-unmatched_meets wrap now e from (Dc destination source) sum = Quiet refl
-unmatched_meets wrap now e from (Dt destination last number text) sum = Quiet refl
-unmatched_meets wrap now e from (Ed destination last number text) sum = Quiet refl
-unmatched_meets wrap now e from (Ak destination number credit subsequence confirmation) sum = Quiet refl
-unmatched_meets wrap now e from (Ea destination number) sum = Quiet refl
-unmatched_meets wrap now e from (Er destination cause rejected) sum = Quiet refl
+unmatched_meets wrap now e from tpdu sum = Quiet refl
 
 if_matches : (b : Bool) (wrap : ℕ → ℕ → ℕ) (now : ℕ) (e : Entity) (from : List ℕ) (tpdu : Tpdu) (sum : Bool) (reference : ℕ) (end : End) → end_at e reference ≡ Some end → is_match end.base end.stage from tpdu ≡ b
     → Meets wrap now e from (tpdu, sum) (cond b (moved e reference (stepped wrap now end (Took tpdu sum))) (unmatched e from tpdu))
@@ -89,12 +83,7 @@ meets wrap now e from (Er destination cause rejected, sum) = by_meets wrap now e
 tpdu_quiet : (wrap : ℕ → ℕ → ℕ) (b : EndRecord) (stage : StateData) (destination reason : ℕ) (info : Option (List ℕ)) (text : List ℕ) → (on_tpdu wrap b stage (Dr destination 0 reason info text)).tpdus ≡ []
 unfolding cr_wait_tpdu wait_before_close_tpdu ak_wait_tpdu opened_tpdu closing_tpdu
 tpdu_quiet wrap b (CrWait w) destination reason info text = refl
-tpdu_quiet wrap b (WaitBeforeClose w) destination reason info text = refl
-tpdu_quiet wrap b (UserWait since) destination reason info text = refl
-tpdu_quiet wrap b (AkWait w) destination reason info text = refl
-tpdu_quiet wrap b (Opened o) destination reason info text = refl
-tpdu_quiet wrap b (Closing c) destination reason info text = refl
-tpdu_quiet wrap b (Frozen when) destination reason info text = refl
+tpdu_quiet wrap b stage destination reason info text = refl
 
 quiet_if : (b : Bool) (one other : Moved) → one.tpdus ≡ [] → other.tpdus ≡ [] → (cond b one other).tpdus ≡ []
 quiet_if true one other h k = h

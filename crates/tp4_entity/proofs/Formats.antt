@@ -86,21 +86,11 @@ handed_is e (Some one) = handed_by (format_of (end_at e one)) one ∙ sym (forma
 -- ---- reading by lists that agree there
 
 looks_at : (count : ℕ) (octets : List ℕ) → (reference (drop 2 (take count octets)) ≡ None) ⊎ (reference (drop 2 (take count octets)) ≡ destination_in octets)
-looks_at zero octets = inl refl
-looks_at (suc zero) [] = inl refl
 looks_at (suc zero) (a ∷ octets) = inl refl
-looks_at (suc (suc zero)) [] = inl refl
-looks_at (suc (suc zero)) (a ∷ []) = inl refl
 looks_at (suc (suc zero)) (a ∷ b ∷ octets) = inl refl
-looks_at (suc (suc (suc zero))) [] = inl refl
-looks_at (suc (suc (suc zero))) (a ∷ []) = inl refl
-looks_at (suc (suc (suc zero))) (a ∷ b ∷ []) = inl refl
 looks_at (suc (suc (suc zero))) (a ∷ b ∷ c ∷ octets) = inl refl
-looks_at (suc (suc (suc (suc count)))) [] = inl refl
-looks_at (suc (suc (suc (suc count)))) (a ∷ []) = inl refl
-looks_at (suc (suc (suc (suc count)))) (a ∷ b ∷ []) = inl refl
-looks_at (suc (suc (suc (suc count)))) (a ∷ b ∷ c ∷ []) = inl refl
 looks_at (suc (suc (suc (suc count)))) (a ∷ b ∷ c ∷ d ∷ octets) = inr refl
+looks_at count octets = inl refl
 
 alike_for : (one other octets : List ℕ) (front : Option ℕ) → format_for one (destination_in octets) ≡ format_for other (destination_in octets)
     → (front ≡ None) ⊎ (front ≡ destination_in octets) → format_for one front ≡ format_for other front

@@ -10,7 +10,7 @@ use Rattle.tp4_flow.specs.declared.step.What.TheVariants.{BadTpdu, Silent}
 use Rattle.tp4_flow.specs.Told.{Told, Grows}
 use Rattle.tp4_number.specs.Number.{wire}
 use Rattle.tp4_entity.specs.Entity.{Acted, Entity, at}
-use Rattle.tp4_entity.specs.References.{is_silent}
+use Rattle.tp4_entity.specs.Silence.{is_silent}
 use Rattle.tp4_entity.specs.Step.{DoesSo}
 use Rattle.tp4_entity.specs.Unit.{ignored, EndsWith, Faulty, HearsUnit, TakesBy, TakesUnit, Separates, Whole, all_met, extended_of}
 use Rattle.tp4_entity.proofs.Units.{shorter}

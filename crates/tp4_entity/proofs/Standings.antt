@@ -13,7 +13,7 @@ use Rattle.tp4_flow.specs.declared.rules.Life.TheVariants.{Goes as GoesOn, Exhau
 use Rattle.tpdu.specs.declared.service.GoneCause.TheVariants.{Exhausted as Spent, AnswerTime}
 use Rattle.tp4_flow.specs.declared.step.EndEvent.{EndEvent}
 use Rattle.tp4_flow.specs.declared.step.Sent.{Sent}
-use Rattle.tp4_sending.specs.FlowSender.{at as sender_at, due_of, life_of}
+use Rattle.tp4_sending.specs.SendingHalf.{at as sender_at, due_of, life_of}
 use Rattle.tp4_sending.specs.Pieces.{sooner}
 use Rattle.tp4_conn.specs.declared.end_record.EndRecord.{EndRecord}
 use Rattle.tp4_conn.specs.declared.call.ConnectRequest.{ConnectRequest}
@@ -37,7 +37,8 @@ use Rattle.tp4_conn.specs.UserWait.{refusing, user_wait_tick}
 use Rattle.tp4_conn.specs.WaitBeforeClose.{wait_before_close_tick}
 use Rattle.tp4_entity.specs.Association.{answers, calls, is_called, is_registered, met, met_by, new_end, refusal, requested, unmatched}
 use Rattle.tp4_entity.specs.Entity.{Acted, Entity, at, end_at, moved, there, with_end}
-use Rattle.tp4_entity.specs.References.{is_silent, is_free, is_free_place, least_free, was_frozen}
+use Rattle.tp4_entity.specs.References.{is_free, is_free_place, least_free, was_frozen}
+use Rattle.tp4_entity.specs.Silence.{is_silent}
 use Rattle.tp4_entity.specs.Standing.{Empty, Goes, IsFreeAt, KeepsEnds, Moves, Over, Stays}
 use Rattle.tp4_entity.specs.Step.{call_of, calling, calling_end, connecting, first_due, kept_end, ticked_to, ticking, ticking_at, ticking_end}
 use Rattle.tp4_entity.proofs.PlaceLaws.{Place, end_at_of}
@@ -115,19 +116,18 @@ get_same (one ∷ places) zero place low = refl
 get_same (one ∷ places) (suc k) place low = get_same places k place (omega arith)
 
 get_other : (places : List Place) (k j : ℕ) (place : Place) → j ≢ k → slice_get (slice_set places k place) j ≡ slice_get places j
-get_other [] k j place apart = refl
 get_other (one ∷ places) zero zero place apart = absurd (apart refl)
-get_other (one ∷ places) zero (suc j) place apart = refl
-get_other (one ∷ places) (suc k) zero place apart = refl
 get_other (one ∷ places) (suc k) (suc j) place apart = get_other places k j place (λ same. apart (ap suc same))
+get_other places k j place apart = refl
 
-at_same : (e : Entity) (reference : ℕ) (place : Place) → 1 ≤ reference → reference ≤ length e.ends → end_at (with_end e reference place) reference ≡ place
+-- a place that is changed, and another one
+pub at_same : (e : Entity) (reference : ℕ) (place : Place) → 1 ≤ reference → reference ≤ length e.ends → end_at (with_end e reference place) reference ≡ place
 at_same e zero place least most = absurd (omega arith)
 at_same e (suc k) place least most =
     let back : suc k - 1 ≡ k = omega arith in
     end_at_of (with_end e (suc k) place) (suc k) k (omega arith) ∙ ap (λ (n : ℕ). there (slice_get (slice_set e.ends n place) k)) back ∙ ap there (get_same e.ends k place (omega arith))
 
-at_other : (e : Entity) (reference other : ℕ) (place : Place) → 1 ≤ reference → other ≢ reference → end_at (with_end e reference place) other ≡ end_at e other
+pub at_other : (e : Entity) (reference other : ℕ) (place : Place) → 1 ≤ reference → other ≢ reference → end_at (with_end e reference place) other ≡ end_at e other
 at_other e zero other place least apart = absurd (omega arith)
 at_other e (suc k) zero place least apart = refl
 at_other e (suc k) (suc j) place least apart =
@@ -300,17 +300,13 @@ sooner_some one None h = cc h
 sooner_some one (Some two) h = cc h
 
 gone : (b : EndRecord) (stage : StateData) → due b stage ≡ None → Gone b stage
-gone b (CrWait w) h = absurd cc
-gone b (WaitBeforeClose w) h = absurd cc
-gone b (UserWait since) h = absurd cc
-gone b (AkWait w) h = absurd cc
 gone b (Opened o) h = absurd (sooner_some _ (due_of o.halves.sending) h)
-gone b (Closing c) h = absurd cc
 gone b (Frozen when) h = by_test (nat_lt (when + frozen_for b.timers) b.clock) refl h
   where
     by_test : (test : Bool) → nat_lt (when + frozen_for b.timers) b.clock ≡ test → cond test None (Some (when + frozen_for b.timers + 1)) ≡ None → Gone b (Frozen when)
     by_test true is h = record { when = when; is = refl; past = ltb-true (when + frozen_for b.timers) b.clock is }
     by_test false is h = absurd cc
+gone b stage h = absurd cc
 
 late_stays : (m : Moved) → Late m → due m.base m.stage ≡ None → ⊥
 late_stays m late h = let g = gone m.base m.stage h in let same = late.late g.when g.is in omega (arith, g.past, same)

@@ -1,5 +1,5 @@
 -- The first place where an end is due ticks, and comes to one where none is: one fewer is due.
-use Rattle.std.proofs.Common.{◌≡◌, ℕ, zero, suc, ◌+◌, ◌<◌, ◌≤◌, ◌∙◌, Bool, true, false, cond, is_some, List, [], ◌∷◌, length, get_or, option_map, slice_get, slice_set, Option, Some, None, ap, refl, sym, subst, arith}
+use Rattle.std.proofs.Common.{◌≡◌, ℕ, zero, suc, ◌+◌, ◌<◌, ◌∙◌, Bool, true, false, cond, is_some, List, [], ◌∷◌, length, get_or, option_map, slice_get, slice_set, Option, Some, None, ap, refl, sym, subst, arith}
 use Rattle.std.specs.List.{count_by, position}
 use Rattle.std.proofs.lemmas.List.Quantifiers.{position-Some}
 use Rattle.std.proofs.lemmas.List.Sums.{sum_by-cons}
@@ -130,6 +130,11 @@ module _ (inside old : Entity) (now place : ℕ) (due new : List (Option ℕ)) (
 
   pub takes_dues : (after : Place) (last : List (Option ℕ)) → last ≡ slice_set new place (due_at after) → last ≡ dues_of (slice_set inside.ends place after)
   takes_dues after last is = popped_set now place due new last inside.ends after (due_at after) t.dues_are t.pops is refl
+
+  -- both, as what always holds says them
+  pub takes_kept : IsEntity inside → (after : Place) → ((timers : Timers) (reference : ℕ) → IsPlace timers now reference there → IsPlace timers now reference after)
+      → (last : List (Option ℕ)) → last ≡ slice_set new place (due_at after) → IsEntity (set_at inside place after) × (last ≡ dues_of (slice_set inside.ends place after))
+  takes_kept entity after kept last is = (takes_entity entity after kept, takes_dues after last is)
 
   pub takes_due : true ≡ is_some (first_due now old)
   takes_due = sym (ap is_some (some_first inside old now place t.same is_first))

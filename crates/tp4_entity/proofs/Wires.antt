@@ -11,7 +11,7 @@ use Rattle.tp4_conn.specs.declared.end_record.EndRecord.{EndRecord}
 use Rattle.tp4_conn.specs.declared.call.ConnectRequest.{ConnectRequest}
 use Rattle.tp4_conn.specs.declared.call.UserCall.{UserCall}
 use Rattle.tp4_conn.specs.declared.states.StateData.{StateData}
-use Rattle.tp4_conn.specs.declared.states.StateData.TheVariants.{CrWait, WaitBeforeClose, UserWait, AkWait, Opened, Closing, Frozen}
+use Rattle.tp4_conn.specs.declared.states.StateData.TheVariants.{CrWait}
 use Rattle.tp4_conn.specs.End.{End, Moved, agreed_format, end_of, frozen_for}
 use Rattle.tp4_conn.specs.Making.{connected}
 use Rattle.tp4_conn.specs.Matching.{fits, is_called_by, is_match}
@@ -22,53 +22,34 @@ use Rattle.tp4_entity.specs.Association.{is_called, is_frozen, is_registered, me
 use Rattle.tp4_entity.specs.Entity.{Acted, Entity, at, end_at, moved, there, with_end}
 use Rattle.tp4_entity.specs.References.{is_free_place, least_free, was_frozen}
 use Rattle.tp4_entity.specs.Step.{call_of, calling, calling_end, connecting, first_due, is_due, is_due_by, kept_end, ticked_to, ticking, ticking_at, ticking_end}
-use Rattle.tp4_entity.specs.References.{is_silent}
+use Rattle.tp4_entity.specs.Silence.{is_silent}
 use Rattle.tp4_entity.specs.Unit.{EndsWith, HearsUnit, TakesBy, TakesUnit, Separates, all_met, extended_from, extended_of, followed, listed_if}
 use Rattle.tp4_entity.specs.Wire.{acted_on_wire, entity_on_wire}
 use Rattle.tp4_entity.proofs.PlaceLaws.{Place, end_at_of}
 
-abbrev on : Place → Place
+-- a place as it stands on the wire
+abbrev pub on : Place → Place
 on place = option_map end_on_wire place
 
 -- ---- what is looked at
 
 due_on : (b : EndRecord) (stage : StateData) → due b (stage_on_wire stage) ≡ due b stage
 due_on b (CrWait w) = refl
-due_on b (WaitBeforeClose w) = refl
-due_on b (UserWait since) = refl
-due_on b (AkWait w) = refl
-due_on b (Opened o) = refl
-due_on b (Closing c) = refl
-due_on b (Frozen when) = refl
+due_on b stage = refl
 
 fits_on : (b : EndRecord) (stage : StateData) (tpdu : Tpdu) → fits b (stage_on_wire stage) tpdu ≡ fits b stage tpdu
 fits_on b (CrWait w) tpdu = refl
-fits_on b (WaitBeforeClose w) tpdu = refl
-fits_on b (UserWait since) tpdu = refl
-fits_on b (AkWait w) tpdu = refl
-fits_on b (Opened o) tpdu = refl
-fits_on b (Closing c) tpdu = refl
-fits_on b (Frozen when) tpdu = refl
+fits_on b stage tpdu = refl
 
 frozen_on : (stage : StateData) → is_frozen (stage_on_wire stage) ≡ is_frozen stage
 frozen_on (CrWait w) = refl
-frozen_on (WaitBeforeClose w) = refl
-frozen_on (UserWait since) = refl
-frozen_on (AkWait w) = refl
-frozen_on (Opened o) = refl
-frozen_on (Closing c) = refl
-frozen_on (Frozen when) = refl
+frozen_on stage = refl
 
 was_frozen_on : (now ticks : ℕ) (stage : StateData) → was_frozen now ticks (stage_on_wire stage) ≡ was_frozen now ticks stage
 was_frozen_on now ticks (CrWait w) = refl
-was_frozen_on now ticks (WaitBeforeClose w) = refl
-was_frozen_on now ticks (UserWait since) = refl
-was_frozen_on now ticks (AkWait w) = refl
-was_frozen_on now ticks (Opened o) = refl
-was_frozen_on now ticks (Closing c) = refl
-was_frozen_on now ticks (Frozen when) = refl
+was_frozen_on now ticks stage = refl
 
-free_on : (now : ℕ) (place : Place) → is_free_place now (on place) ≡ is_free_place now place
+pub free_on : (now : ℕ) (place : Place) → is_free_place now (on place) ≡ is_free_place now place
 free_on now None = refl
 free_on now (Some end) = was_frozen_on now (frozen_for end.base.timers) end.stage
 
@@ -89,20 +70,20 @@ first_on : (test : Place → Bool) (places : List Place) → ((place : Place) �
 first_on test [] same = refl
 first_on test (place ∷ places) same = λ i. cond (not (same place i)) (1 + first_on test places same i) 0
 
-map_length : (places : List Place) → length (map on places) ≡ length places
+pub map_length : (places : List Place) → length (map on places) ≡ length places
 map_length [] = refl
 map_length (place ∷ places) = ap suc (map_length places)
 
 position_on : (test : Place → Bool) (places : List Place) → ((place : Place) → test (on place) ≡ test place) → position test (map on places) ≡ position test places
 position_on test places same = λ i. cond (nat_lt (first_on test places same i) (map_length places i)) (Some (first_on test places same i)) None
 
-least_on : (now : ℕ) (e : Entity) → least_free now (entity_on_wire e) ≡ least_free now e
+pub least_on : (now : ℕ) (e : Entity) → least_free now (entity_on_wire e) ≡ least_free now e
 least_on now e = ap (option_map (λ place. place + 1)) (position_on (is_free_place now) e.ends (free_on now))
 
-first_due_on : (now : ℕ) (e : Entity) → first_due now (entity_on_wire e) ≡ first_due now e
+pub first_due_on : (now : ℕ) (e : Entity) → first_due now (entity_on_wire e) ≡ first_due now e
 first_due_on now e = ap (option_map (λ place. place + 1)) (position_on (is_due now) e.ends (is_due_on now))
 
-listed_on : (from : ℕ) (places : List Place) → extended_from from (map on places) ≡ extended_from from places
+pub listed_on : (from : ℕ) (places : List Place) → extended_from from (map on places) ≡ extended_from from places
 listed_on from [] = refl
 listed_on from (None ∷ places) = listed_on (from + 1) places
 listed_on from (Some end ∷ places) = ap (listed_if (agreed_format end.base.agreed) from) (listed_on (from + 1) places)
@@ -114,7 +95,7 @@ get_on [] k = refl
 get_on (place ∷ places) zero = refl
 get_on (place ∷ places) (suc k) = get_on places k
 
-end_on : (e : Entity) (reference : ℕ) → end_at (entity_on_wire e) reference ≡ on (end_at e reference)
+pub end_on : (e : Entity) (reference : ℕ) → end_at (entity_on_wire e) reference ≡ on (end_at e reference)
 end_on e zero = refl
 end_on e (suc k) = end_at_of (entity_on_wire e) (suc k) k (omega arith) ∙ get_on e.ends k ∙ ap on (sym (end_at_of e (suc k) k (omega arith)))
 

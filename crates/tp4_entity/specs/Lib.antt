@@ -2,6 +2,7 @@ pub mod Association
 pub mod Dues
 pub mod Entity
 pub mod References
+pub mod Silence
 pub mod Standing
 pub mod Step
 pub mod Unit

@@ -4,6 +4,7 @@ use Rattle.tp4_conn.specs.declared.states.StateData.{StateData}
 use Rattle.tp4_conn.specs.declared.states.StateData.TheVariants.{Frozen}
 use Rattle.tp4_conn.specs.End.{End, frozen_for}
 use Rattle.tp4_entity.specs.Entity.{Entity, end_at}
+use Rattle.tp4_entity.specs.Silence.{is_silent}
 
 -- the end was frozen more than so many ticks ago
 abbrev pub was_frozen : ℕ → ℕ → StateData → Bool
@@ -14,15 +15,6 @@ was_frozen now ticks other = false
 abbrev pub is_free_place : ℕ → Option End → Bool
 is_free_place now None = true
 is_free_place now (Some end) = was_frozen now (frozen_for end.base.timers) end.stage
-
--- at the latest so many ticks after it began again
-abbrev pub is_within : ℕ → ℕ → Option ℕ → Bool
-is_within now ticks None = false
-is_within now ticks (Some when) = nat_le now (when + ticks)
-
--- an entity that began again is silent for F ticks
-abbrev pub is_silent : ℕ → Entity → Bool
-is_silent now e = is_within now (frozen_for e.timers) e.restarted
 
 -- a reference of the entity that is free: none is while it is silent
 abbrev pub is_free : ℕ → Entity → ℕ → Bool

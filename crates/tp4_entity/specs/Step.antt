@@ -17,7 +17,8 @@ use Rattle.tp4_entity.specs.declared.refusal.ConnectRefusal.TheVariants as conne
 use Rattle.tp4_entity.specs.declared.refusal.EntityRefusal.{EntityRefusal}
 use Rattle.tp4_entity.specs.declared.refusal.EntityRefusal.TheVariants as refusals
 use Rattle.tp4_entity.specs.Entity.{Entity, Acted, at, end_at, moved, with_end}
-use Rattle.tp4_entity.specs.References.{is_silent, least_free}
+use Rattle.tp4_entity.specs.References.{least_free}
+use Rattle.tp4_entity.specs.Silence.{is_silent}
 
 -- an entity with so many references, no end and no selector
 abbrev pub new_entity : List ℕ → ℕ → Timers → Entity

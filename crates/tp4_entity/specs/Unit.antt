@@ -11,7 +11,7 @@ use Rattle.tp4_flow.specs.declared.step.What.TheVariants.{BadTpdu, Silent}
 use Rattle.tp4_conn.specs.End.{End, agreed_format}
 use Rattle.tp4_entity.specs.Entity.{Entity, Acted, at}
 use Rattle.tp4_entity.specs.Association.{met}
-use Rattle.tp4_entity.specs.References.{is_silent}
+use Rattle.tp4_entity.specs.Silence.{is_silent}
 
 -- in front of others, where it holds
 abbrev pub listed_if : Format → ℕ → List ℕ → List ℕ

@@ -1,6 +1,6 @@
 //! The ends of a system by their references, and what its users ask (X.224, class 4: connection establishment; frozen references).
 
-ghost use Rattle.std.specs.Prelude.{◌≡◌, ◌≢◌, ◌≤◌, ◌<◌, ◌+◌, ◌-◌, ◌*◌, [], ◌∷◌, ◌++◌, Some, None, Err, true, false, length, option_copied, replicate, slice_get, is_some, if◌then◌else◌, IfErr, IfOk, OnErr, OnOk};
+ghost use Rattle.std.specs.Prelude.{◌≡◌, ◌≢◌, ◌≤◌, ◌+◌, ◌*◌, [], ◌∷◌, ◌++◌, Some, None, Err, true, false, is_some, if◌then◌else◌, IfErr, IfOk, OnErr, OnOk};
 ghost use Rattle.tp4_number.specs.Number.{wire};
 ghost use Rattle.tp4_conn.specs.Calls.{IsCall};
 ghost use Rattle.tp4_conn.specs.End.{IsSized, IsTimed};
@@ -8,20 +8,15 @@ ghost use Rattle.tp4_conn.specs.declared.call.CallRefusal.TheVariants.{NoMemory 
 ghost use Rattle.tp4_entity.specs.Association.{is_registered};
 ghost use Rattle.std.specs.List.{list_any};
 ghost use Rattle.tp4_entity.specs.Dues.{AreFrom, AreLater};
-ghost use Rattle.tp4_entity.specs.Entity.{Acted, at, end_at, with_end};
-ghost use Rattle.tp4_entity.specs.References.{is_free, is_silent, least_free};
+ghost use Rattle.tp4_entity.specs.References.{is_free, least_free};
 ghost use Rattle.tp4_entity.specs.Step.{DoesSo, calling, connect_refusal, connecting, dues, first_due, is_due, new_entity, restarted, state_at, ticking, user_refusal};
-ghost use Rattle.tp4_entity.specs.Unit.{HearsUnit};
 ghost use Rattle.tp4_entity.specs.declared.refusal.ConnectRefusal.{ConnectRefusal};
 ghost use Rattle.tp4_entity.specs.declared.refusal.ConnectRefusal.TheVariants.{NoMemory as ConnectOutOfMemory};
 ghost use Rattle.tp4_entity.specs.declared.refusal.EntityRefusal.{EntityRefusal};
 ghost use Rattle.tp4_entity.specs.declared.refusal.EntityRefusal.TheVariants.{Call};
 ghost use Rattle.tp4_entity.specs.declared.refusal.TsapRefusal.TheVariants.{TsapTaken};
-ghost use Rattle.tp4_entity.specs.steps.Places.{IsOwn};
 
-use crate::references::{
-    call_place, clear_dues, clear_places, clock_after, free_place, is_over, no_ends, tick_place,
-};
+use crate::references::{call_place, clock_after, free_place, is_over, no_ends, tick_place};
 use crate::{ConnectRefusal, EntityRefusal, TsapRefusal};
 use due_links::Due;
 use nsap::Nsap;
@@ -137,29 +132,6 @@ impl<K: Looks> TpEntity<K> {
             Some(end) => is_over(end, now, looks),
             None => true,
         }
-    }
-
-    /// Whether the entity began again at most F ticks ago: it takes no TPDU then, and begins no connection.
-    pub fn is_silent(&self, now: Tick) -> bool
-        ensures { result ≡ is_silent now self.now }
-    {
-        match self.restarted {
-            Some(when) => { u64::from(now) <= u64::from(when) + u64::from(self.timers.frozen()) }
-            None => false,
-        }
-    }
-
-    /// The entity begins again: its ends are gone, and nothing is told or sent. Its selectors stay. It is silent for F ticks.
-    pub fn restart(&mut self, now: Tick)
-        requires clock { self.old.clock ≤ now }
-        ensures value { self.new ≡ restarted now self.old }
-        ensures later { AreLater now self.new.ends }
-    {
-        let count = self.ends.len() as u32;
-        clear_places(&mut self.ends);
-        clear_dues(&mut self.due, count);
-        self.clock = now;
-        self.restarted = Some(now);
     }
 
     /// Connections are taken at that selector.

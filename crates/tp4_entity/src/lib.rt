@@ -7,6 +7,7 @@ mod entity;
 mod laws;
 mod references;
 mod refusal;
+mod silence;
 mod steps;
 mod unit;
 

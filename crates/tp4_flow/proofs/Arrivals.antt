@@ -7,7 +7,7 @@ use Rattle.tp4_number.specs.declared.got.Got.TheVariants.{Kept, Old, Outside, To
 use Rattle.tp4_number.specs.Number.{wire, ahead}
 use Rattle.tp4_number.specs.Window.{Held, Joined, is_held, placed, joined}
 use Rattle.tp4_number.specs.Receiver.{Inbox, Arrived, judged, in_order, kept, arrived, arrived_as}
-use Rattle.tp4_flow.specs.Half.{Half, Receives, block_in, dt_arrival, taken_dt, half_after, ak, aks}
+use Rattle.tp4_flow.specs.ReceivingHalf.{Half, Receives, block_in, dt_arrival, taken_dt, half_after, ak, aks}
 use Rattle.tp4_flow.specs.Told.{Told, gots}
 use Rattle.tp4_flow.specs.steps.Shown.{Shows}
 use Rattle.tp4_flow.proofs.Joinings.{append_none}

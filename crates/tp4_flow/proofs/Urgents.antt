@@ -4,7 +4,7 @@ use Rattle.std.proofs.lemmas.Bool.Decides.{nat_tests}
 use Rattle.tp4_number.specs.Number.{wire}
 use Rattle.tp4_flow.specs.declared.step.What.TheVariants as whats
 use Rattle.tpdu.specs.declared.service.EndTold.TheVariants.{Urgent}
-use Rattle.tp4_flow.specs.Half.{Half, Received, Receives, block_in, taken_ed, is_next, is_before, ea}
+use Rattle.tp4_flow.specs.ReceivingHalf.{Half, Received, Receives, block_in, taken_ed, is_next, is_before, ea}
 use Rattle.tp4_flow.specs.Told.{Told}
 use Rattle.tp4_flow.proofs.Joinings.{append_none}
 use Rattle.tp4_flow.proofs.Wires.{wire_low}

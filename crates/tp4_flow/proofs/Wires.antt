@@ -4,14 +4,14 @@ use Rattle.std.proofs.Common.{◌≡◌, ℕ, ◌+◌, ◌*◌, ◌<◌, ◌∙�
 use Rattle.std.proofs.Math.Nat.{mod-mod, mod-add-mod, mod-eq_of_lt}
 use Rattle.tpdu.specs.declared.tpdu.Tpdu.TheVariants.{Ak}
 use Rattle.tp4_number.specs.declared.got.Got.{Got}
-use Rattle.tp4_number.specs.declared.got.Got.TheVariants.{Kept, Old, Outside, TooLarge}
+use Rattle.tp4_number.specs.declared.got.Got.TheVariants.{TooLarge}
 use Rattle.tp4_number.specs.declared.piece.Piece.{Piece}
 use Rattle.tp4_number.specs.Number.{whole, wire, ahead}
 use Rattle.tp4_number.specs.Receiver.{Arrived, arrived}
 use Rattle.tp4_flow.specs.declared.step.Sent.{Sent}
 use Rattle.tp4_flow.specs.declared.step.What.TheVariants as whats
 use Rattle.tpdu.specs.declared.service.EndTold.TheVariants.{Urgent}
-use Rattle.tp4_flow.specs.Half.{Half, Received, IsOnWire, on_wire, block_in, ak, aks, ea, dt_arrival, half_after, taken_dt, taken_ed, is_next, half_granted}
+use Rattle.tp4_flow.specs.ReceivingHalf.{Half, Received, IsOnWire, on_wire, block_in, ak, aks, ea, dt_arrival, half_after, taken_dt, taken_ed, is_next, half_granted}
 use Rattle.tp4_flow.specs.Told.{gots}
 
 pub wire_low : (block n : ℕ) → n < 4 * block → wire block n ≡ n
@@ -38,10 +38,8 @@ pub ak_on : (h : Half) → ak (on_wire h) ≡ ak h
 ak_on h = ap (λ (n : ℕ). ak_at h n) (wire_wire (block_in h) h.receiver.expected)
 
 aks_on : (got : Got) (h : Half) → aks got (on_wire h) ≡ aks got h
-aks_on Kept h = ap (λ (s : Sent). s ∷ []) (ak_on h)
-aks_on Old h = ap (λ (s : Sent). s ∷ []) (ak_on h)
-aks_on Outside h = ap (λ (s : Sent). s ∷ []) (ak_on h)
 aks_on TooLarge h = refl
+aks_on got h = ap (λ (s : Sent). s ∷ []) (ak_on h)
 
 pub arrival_on : (h : Half) (w : ℕ) (piece : Piece) → dt_arrival (on_wire h) w piece ≡ dt_arrival h w piece
 arrival_on h w piece = ap (λ (n : ℕ). arrived (block_in h) h.receiver.inbox (ahead (block_in h) n w) piece) (wire_wire (block_in h) h.receiver.expected)

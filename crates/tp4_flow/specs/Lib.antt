@@ -1,3 +1,3 @@
-pub mod Half
+pub mod ReceivingHalf
 pub mod Told
 pub mod steps

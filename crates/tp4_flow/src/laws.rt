@@ -3,7 +3,7 @@
 ghost use Rattle.std.specs.Prelude.{◌≡◌, ℕ, List};
 ghost use Rattle.tp4_number.specs.declared.piece.Piece.{Piece};
 ghost use Rattle.tp4_number.specs.Number.{whole, wire};
-ghost use Rattle.tp4_flow.specs.Half.{Half, IsOnWire, on_wire, ak, dt_arrival, taken_dt, taken_ed, half_granted};
+ghost use Rattle.tp4_flow.specs.ReceivingHalf.{Half, IsOnWire, on_wire, ak, dt_arrival, taken_dt, taken_ed, half_granted};
 
 /// A receiving half that keeps wire numbers stands for every half with these wire numbers: it answers,
 /// tells and sends what that half does, and stands for it afterwards.

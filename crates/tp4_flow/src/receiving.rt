@@ -4,7 +4,7 @@ ghost use Rattle.std.specs.Prelude.{◌≡◌, ◌<◌, ◌≤◌, ◌+◌, ◌*
 ghost use Rattle.tp4_number.specs.Formats.{block_of, most_of};
 ghost use Rattle.tp4_number.specs.Number;
 ghost use Rattle.tp4_number.specs.Receiver.{judged};
-ghost use Rattle.tp4_flow.specs.Half.{Half, Receives, empty, ak, ea, dt_arrival, taken_dt, taken_ed, is_next, half_granted};
+ghost use Rattle.tp4_flow.specs.ReceivingHalf.{Half, Receives, empty, ak, ea, dt_arrival, taken_dt, taken_ed, is_next, half_granted};
 ghost use Rattle.tp4_flow.specs.steps.Shown.{Shows};
 
 use crate::reassembling::Window;
@@ -30,7 +30,7 @@ pub struct Receiving {
 
 // The numbers are those of the wire, and there is a place for each number within the greatest credit.
 impl Model for Receiving {
-    ghost use Rattle.tp4_flow.specs.Half.{Half, IsHalf};
+    ghost use Rattle.tp4_flow.specs.ReceivingHalf.{Half, IsHalf};
 
     ghost Value = { Half };
 

@@ -7,9 +7,7 @@ use Rattle.tp4_number.proofs.Past.{if_both}
 
 all_true : (a b c : Bool) → (a && (b && c)) ≡ true → (b ≡ true) × (c ≡ true)
 all_true true true true t = (refl, refl)
-all_true true true false t = absurd (cc t)
-all_true true false c t = absurd (cc t)
-all_true false b c t = absurd (cc t)
+all_true a b c t = absurd (cc t)
 
 pub all_lead : (rules : Rules) (total fuel : ℕ) (w : Traffic)
     → (events : List Event) × Leads rules w events (record w { sender = sent_all fuel rules.block rules.limit w.sender w.clock total; sends = w.sends ++ gone fuel rules.block rules.limit w.sender w.clock total })

@@ -1,7 +1,8 @@
 -- What a relay does with units: what it submits at one end of a pair is a front of what the other end showed.
 use Rattle.std.specs.Prelude.{◌≡◌, ◌≢◌, ◌⊎◌, ℕ, List, ◌++◌, slice_get, Some}
 use Rattle.std.specs.List.{Contains}
-use Rattle.script_journal.specs.Lawful.{AreEnds, Marked, shown, submitted}
+use Rattle.script_journal.specs.Lawful.{Marked, shown, submitted}
+use Rattle.script_journal.specs.Partner.{AreEnds}
 use Rattle.script_journal.specs.declared.event.Event.{Event}
 use Rattle.script_journal.specs.declared.event.Event.TheVariants as events
 use Rattle.script_journal.specs.declared.event.Indication.{Indication}

@@ -2,6 +2,7 @@
 //! system, and what is shown at the one end is submitted at the other (X.214, service primitives).
 #![tactic(auto)]
 
+mod backlog;
 mod claim;
 mod laws;
 mod pair;
@@ -13,10 +14,10 @@ mod row;
 mod service;
 mod serving;
 mod table;
-#[cfg(test)]
 mod tests;
 mod unit;
 
+#[cfg(test)]
 pub use claim::Claim;
 pub use laws::{pump_gives_all, refusals_are_told, relays_all, relays_units, worked_rows};
 pub use pair::{Heading, Pair, Phase, Way};

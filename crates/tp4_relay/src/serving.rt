@@ -1,19 +1,18 @@
 //! What a pump does for the pairs that are open: units that wait are submitted, and the credit of the end is set at which they were shown.
 
-ghost use Rattle.std.specs.Prelude.{◌≡◌, ◌<◌, ◌≤◌, List, length, slice_get, Some, IfOk, OnErr};
+ghost use Rattle.std.specs.Prelude.{◌≡◌, ◌<◌, ◌≤◌, length, slice_get, Some, IfOk, OnErr};
 ghost use Rattle.tp4_conn.specs.Calls.{IsCall};
 ghost use Rattle.tp4_relay.specs.Allowed.{AreAllowed};
 ghost use Rattle.tp4_relay.specs.Pairs.{open_places};
-ghost use Rattle.tp4_relay.specs.Pump.{credit_now, far_end, near_end, unit_call, way_of};
+ghost use Rattle.tp4_relay.specs.Pump.{far_end, near_end, unit_call, way_of};
 ghost use Rattle.tp4_relay.specs.Service.{Tells};
 ghost use Rattle.tp4_relay.specs.declared.pair.Pair.{Pair as Joined};
-ghost use Rattle.tp4_relay.specs.declared.unit.MarkedUnit.{MarkedUnit as Marked};
 ghost use Rattle.tp4_relay.specs.steps.Making.{MayAsk};
-ghost use Rattle.tp4_relay.specs.steps.Serving.{Asked, Balanced, IsOpenAt, Parted, ServedEach, ServedPair, ServedWay, Submitted, first_call};
+ghost use Rattle.tp4_relay.specs.steps.Serving.{Asked, IsOpenAt, ServedEach, ServedPair, ServedWay, Submitted, first_call};
 ghost use Rattle.tp4_relay.specs.steps.Tables.{IsTied, kept_of};
 
+use crate::backlog::balance;
 use crate::pair::{Heading, Pair, Phase, Way};
-use crate::reaction::nothing;
 use crate::service::Service;
 use crate::table::{Table, note_from};
 use crate::unit::MarkedUnit;
@@ -21,9 +20,6 @@ use osi_base::{Bytes, NoMemory};
 use script_journal::Event;
 use std::alloc::Global;
 use tp4_conn::UserCall;
-
-/// So many units may wait for an end.
-const MOST_WAITING: usize = 300;
 
 /// Serves each open pair, in the order in which they were joined; whether a call was done.
 pub fn serve_all<S: Service>(
@@ -128,73 +124,8 @@ fn next_call(table: &Table, place: usize, heading: Heading) -> Result<Option<Use
     }
 }
 
-/// Where more than may wait are left both ends are disconnected, the inbound one first; else the credit is lowered where units wait,
-/// and raised where none does.
-fn balance<S: Service>(
-    table: &mut Table,
-    service: &mut S,
-    place: usize,
-    heading: Heading,
-    events: &mut Vec<Event>,
-) -> Result<bool, NoMemory>
-    requires tied { IsTied table.old }
-    requires credit { table.old.rules.credit ≤ 255 }
-    requires place { place < length table.old.pairs.items }
-    ensures tied { IsTied table.new }
-    ensures told { IfOk result (λ done. Tells events.old.items events.new.items (λ made. Balanced S.connects S.calls service.old (kept_of table.old) place heading done made service.new (kept_of table.new))) }
-    ensures broken { OnErr result (Tells events.old.items events.new.items (AreAllowed (kept_of table.old))) }
-{
-    let way = way_of(&table.pairs[place], heading);
-    let left = way.waiting.count();
-    if left > MOST_WAITING {
-        return part(table, service, place, events);
-    }
-    match credit_now(table.rules.credit, way.lowered, left) {
-        Some(credit) => {
-            let near = near_end(&table.pairs[place], heading);
-            ask(table, service, near, UserCall::Window(credit), events)
-        }
-        None => Ok(false),
-    }
-}
-
-/// The credit that is to be set now, where so many units are left.
-fn credit_now(first: u16, lowered: bool, left: usize) -> Option<u16>
-    ensures { (units : List Marked) → length units ≡ left → result ≡ credit_now first lowered units }
-{
-    if left == 0 {
-        if lowered { Some(first) } else { None }
-    } else if lowered {
-        None
-    } else {
-        Some(0)
-    }
-}
-
-/// Disconnects both ends of a pair.
-fn part<S: Service>(
-    table: &mut Table,
-    service: &mut S,
-    place: usize,
-    events: &mut Vec<Event>,
-) -> Result<bool, NoMemory>
-    requires tied { IsTied table.old }
-    requires place { place < length table.old.pairs.items }
-    ensures tied { IsTied table.new }
-    ensures told { IfOk result (λ done. Tells events.old.items events.new.items (λ made. Parted S.connects S.calls service.old (kept_of table.old) place done made service.new (kept_of table.new))) }
-    ensures broken { OnErr result (Tells events.old.items events.new.items (AreAllowed (kept_of table.old))) }
-{
-    let inbound = table.pairs[place].inbound;
-    let outbound = table.pairs[place].outbound;
-    let first = UserCall::Disconnect(nothing(table.alloc));
-    let one = ask(table, service, inbound, first, events)?;
-    let second = UserCall::Disconnect(nothing(table.alloc));
-    let other = ask(table, service, outbound, second, events)?;
-    Ok(one || other)
-}
-
 /// Calls an end, and notes what comes of it.
-fn ask<S: Service>(
+pub fn ask<S: Service>(
     table: &mut Table,
     service: &mut S,
     end: u32,
@@ -214,7 +145,7 @@ fn ask<S: Service>(
     Ok(done)
 }
 
-fn way_of(pair: &Pair, heading: Heading) -> &Way
+pub fn way_of(pair: &Pair, heading: Heading) -> &Way
     ensures { result.now ≡ way_of heading pair.now }
 {
     match heading {
@@ -224,7 +155,7 @@ fn way_of(pair: &Pair, heading: Heading) -> &Way
 }
 
 /// The end at which the units of this way are shown.
-fn near_end(pair: &Pair, heading: Heading) -> u32
+pub fn near_end(pair: &Pair, heading: Heading) -> u32
     ensures { result ≡ near_end heading pair.now }
 {
     match heading {

@@ -5,7 +5,7 @@ use Rattle.std.proofs.lemmas.List.{length-take, drop_all}
 use Rattle.std.proofs.lemmas.List.Elements.{All-take, All-drop}
 use Rattle.tp4_number.specs.Sender.{Sender, told, is_newer}
 use Rattle.tp4_sending.specs.declared.tries.Tries.{Tries}
-use Rattle.tp4_sending.specs.FlowSender.{FlowSender, is_taken, acknowledged_to}
+use Rattle.tp4_sending.specs.SendingHalf.{FlowSender, is_taken, acknowledged_to}
 use Rattle.tp4_sending.specs.Kept.{IsSending, IsTried, most_granted}
 use Rattle.tp4_sending.specs.Pieces.{Queue, freed}
 use Rattle.tp4_sending.proofs.Frees.{freed_left}

@@ -2,7 +2,7 @@
 use Rattle.std.proofs.Common.{◌≡◌, ℕ, ◌++◌, Bool, true, false, if◌then◌else◌, append-nil, refl, sym, subst}
 use Rattle.tp4_flow.specs.Told.{Told}
 use Rattle.tp4_number.specs.Number.{near}
-use Rattle.tp4_sending.specs.FlowSender.{FlowSender, Sends, Keeps, at, nothing, block_in, new_sends, is_taken, acknowledged_to, acknowledged}
+use Rattle.tp4_sending.specs.SendingHalf.{FlowSender, Sends, Keeps, at, nothing, block_in, new_sends, is_taken, acknowledged_to, acknowledged}
 
 -- what is kept from a tick on
 pub kept_at : (s new : FlowSender) (now : ℕ) → Keeps (at now s) new now → Keeps s new now

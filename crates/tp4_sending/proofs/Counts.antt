@@ -1,6 +1,7 @@
 -- Numbers stand in order and grow no faster than ticks, also after one more sending: for the first time, or again.
-use Rattle.std.proofs.Common.{◌≡◌, ℕ, ◌+◌, ◌-◌, ◌*◌, ◌<◌, ◌≤◌, Bool, true, false, nat_lt, nat_le, if◌then◌else◌, ◌||◌, List, [], ◌∷◌, ◌++◌, length, length-append, max, ◌⊎◌, inl, inr, refl, sym, subst, arith, Option, Some, None}
+use Rattle.std.proofs.Common.{◌≡◌, ℕ, ◌+◌, ◌-◌, ◌*◌, ◌<◌, ◌≤◌, Bool, true, false, nat_lt, nat_le, if◌then◌else◌, ◌||◌, List, [], ◌∷◌, ◌++◌, length, length-append, max, ◌⊎◌, inl, inr, refl, sym, subst, arith, Option, Some, None, All}
 use Rattle.std.specs.Prelude.{slice_set}
+use Rattle.std.specs.List.{sum_by}
 use Rattle.std.proofs.Math.Nat.{mul-le-mul_left}
 use Rattle.std.proofs.Math.ListN.{length-set}
 use Rattle.std.proofs.lemmas.Bool.{ltb-true, ltb-false, leb-true, or_cases, or_parts, and_parts}
@@ -11,8 +12,8 @@ use Rattle.tp4_number.specs.Sender.{may_send, marked}
 use Rattle.tpdu.specs.declared.tpdu.Format.{Format}
 use Rattle.tpdu.specs.declared.tpdu.Format.TheVariants.{Normal, Extended}
 use Rattle.tp4_sending.specs.declared.tries.Tries.{Tries}
-use Rattle.tp4_sending.specs.FlowSender as sender
-use Rattle.tp4_sending.specs.FlowSender.{FlowSender, UrgentSender, at, block_in, rule_allows, has_next, sent_normal, sent_urgent}
+use Rattle.tp4_sending.specs.SendingHalf as sender
+use Rattle.tp4_sending.specs.SendingHalf.{FlowSender, UrgentSender, at, block_in, rule_allows, has_next, sent_normal, sent_urgent}
 use Rattle.tp4_sending.specs.Kept.{IsCounted, IsSending, IsTried, IsGone, IsUpTo, urgent_base, most_granted}
 use Rattle.tp4_sending.specs.Pieces.{again, once}
 use Rattle.tp4_sending.specs.steps.Again as again_at
@@ -42,52 +43,38 @@ grown_on block clock first third h r = elim r [
   | inr past ↦ let more : block * (third + 1) ≤ block * clock = mul-le-mul_left block (omega (arith, past)) in omega (arith, more)
 ]
 
+-- numbers are counted where they, the blocks, the ticks of the three newest blocks and their growth are in bounds
+counted_in : (block clock base to : ℕ) (b : Blocks) → base ≤ to → (to ≤ b.high) × (b.high < base + block) → (b.first ≤ b.high) × (b.high ≤ b.first + block)
+    → (b.newest ≤ clock) × (b.second ≤ clock) × (b.third ≤ clock)
+    → (b.first ≤ 3 * (block * b.newest) + 2 * block) × (b.first ≤ 3 * (block * b.second) + 3 * block) × (b.first ≤ 3 * (block * b.third) + 4 * block) → IsCounted block clock base to b
+counted_in block clock base to b from top first ticks grown = record {
+  next_from = from;
+  next_to = top.0;
+  high_low = top.1;
+  first_low = first.0;
+  first_to = first.1;
+  newest = ticks.0;
+  second = ticks.1;
+  third = ticks.2;
+  grown = grown.0;
+  grown2 = grown.1;
+  grown3 = grown.2;
+}
+
 counted_marked : (block clock base next n to : ℕ) (b : Blocks) → IsCounted block clock base next b → Goes block clock base next n to b → IsCounted block clock base to (marked block b n clock)
 counted_marked block clock base next n to b h g =
     let newer : block * b.newest ≤ block * clock = mul-le-mul_left block h.newest in
     let later : block * b.second ≤ block * clock = mul-le-mul_left block h.second in
     let top = counted_high block clock base next n to b h g in
     by_test (IsCounted block clock base to) (nat_lt n b.first) _ _
-    (λ e. let below : n < b.first = ltb-true _ _ e in record {
-      next_from = g.from;
-      next_to = top.0;
-      high_low = top.1;
-      first_low = omega arith;
-      first_to = omega arith;
-      newest = h.newest;
-      second = omega arith;
-      third = h.third;
-      grown = h.grown;
-      grown2 = omega (arith, later, h.grown2);
-      grown3 = h.grown3;
-    })
+    (λ e. let below : n < b.first = ltb-true _ _ e in
+    counted_in block clock base to _ g.from top (omega arith, omega arith) (h.newest, omega arith, h.third) (h.grown, omega (arith, later, h.grown2), h.grown3))
     (λ _. by_test (IsCounted block clock base to) (nat_lt n (b.first + block)) _ _
-    (λ e. let below : n < b.first + block = ltb-true _ _ e in record {
-      next_from = g.from;
-      next_to = top.0;
-      high_low = top.1;
-      first_low = omega arith;
-      first_to = omega arith;
-      newest = omega arith;
-      second = h.second;
-      third = h.third;
-      grown = omega (arith, newer, h.grown);
-      grown2 = h.grown2;
-      grown3 = h.grown3;
-    })
-    (λ e. let begins : b.first + block ≤ n = ltb-false _ _ e in record {
-      next_from = g.from;
-      next_to = top.0;
-      high_low = top.1;
-      first_low = omega arith;
-      first_to = omega arith;
-      newest = omega arith;
-      second = h.newest;
-      third = h.second;
-      grown = grown_on block clock b.first b.third h.grown3 (g.rule begins);
-      grown2 = omega (arith, h.grown);
-      grown3 = omega (arith, h.grown2);
-    }))
+    (λ e. let below : n < b.first + block = ltb-true _ _ e in
+    counted_in block clock base to _ g.from top (omega arith, omega arith) (omega arith, h.second, h.third) (omega (arith, newer, h.grown), h.grown2, h.grown3))
+    (λ e. let begins : b.first + block ≤ n = ltb-false _ _ e in
+    counted_in block clock base to _ g.from top (omega arith, omega arith) (omega arith, h.newest, h.second)
+    (grown_on block clock b.first b.third h.grown3 (g.rule begins), omega (arith, h.grown), omega (arith, h.grown2))))
 
 -- high never falls
 marked_high : (block : ℕ) (b : Blocks) (n now : ℕ) → b.high ≤ (marked block b n now).high
@@ -120,34 +107,63 @@ credit_low Extended credit h = omega (arith, h)
 tried_once : (clock : ℕ) → IsTried clock (once clock)
 tried_once clock = (omega arith, omega arith)
 
+-- the next number, the blocks and the window are others
+with_window : (s : FlowSender) (next : ℕ) (blocks : Blocks) (window : List Tries) → IsSending s → IsCounted (block_in s) s.clock s.numbers.base next blocks → length window + s.numbers.base ≡ next
+    → All (IsTried s.clock) window → s.numbers.blocks.high ≤ blocks.high → IsSending (record s { numbers = record s.numbers { next = next; blocks = blocks }; window = window })
+with_window s next blocks window h counted size tries high = record {
+  rules = h.rules;
+  clock = h.clock;
+  credit = h.credit;
+  normal = counted;
+  window = size;
+  tries = tries;
+  first = h.first;
+  units = h.units;
+  octets = h.octets;
+  urgent = h.urgent;
+  out = h.out;
+  expedited = h.expedited;
+  noted = up_on s.noted s.numbers.blocks.high blocks.high h.noted high;
+  urged = h.urged;
+}
+
+-- the units and the EDs are others
+pub with_units : (s : FlowSender) (units : List (List ℕ)) (u : UrgentSender) → IsSending s → length units ≤ 64 → sum_by length units ≤ 131072
+    → ((base : ℕ) × urgent_base u u.out base × IsCounted (block_in s) s.clock base u.next u.blocks) → IsGone s.clock u.out → length u.units ≤ 64 → IsUpTo u.noted u.blocks.high
+    → IsSending (record s { queue = record s.queue { units = units }; urgent = u })
+with_units s units u h few low counted gone expedited urged = record {
+  rules = h.rules;
+  clock = h.clock;
+  credit = h.credit;
+  normal = h.normal;
+  window = h.window;
+  tries = h.tries;
+  first = h.first;
+  units = few;
+  octets = low;
+  urgent = counted;
+  out = gone;
+  expedited = expedited;
+  noted = h.noted;
+  urged = urged;
+}
+
 -- the next DT
 pub sent_first : (s : FlowSender) → IsSending s → has_next s ≡ true → rule_allows s s.numbers.blocks s.numbers.next ≡ true → IsSending (sent_normal s)
 sent_first s h more rule =
     let within : s.numbers.next < s.numbers.base + s.numbers.credit = ltb-true _ _ (and_parts _ _ more).0 in
     let low : s.numbers.credit < block_in s = credit_low s.rules.format s.numbers.credit h.credit in
-    record {
-      rules = h.rules;
-      clock = h.clock;
-      credit = h.credit;
-      normal = counted_marked (block_in s) s.clock s.numbers.base s.numbers.next s.numbers.next (s.numbers.next + 1) s.numbers.blocks h.normal (record {
-        low = h.normal.next_from;
-        high = omega arith;
-        within = omega (arith, within, low);
-        from = omega (arith, h.normal.next_from);
-        end = inr refl;
-        rule = ruled (block_in s) s.rules.limit s.clock s.numbers.next s.numbers.blocks rule;
-      });
-      window = omega (arith, length-append s.window (once s.clock ∷ []), h.window);
-      tries = All-push (IsTried s.clock) s.window (once s.clock) h.tries (tried_once s.clock);
-      first = h.first;
-      units = h.units;
-      octets = h.octets;
-      urgent = h.urgent;
-      out = h.out;
-      expedited = h.expedited;
-      noted = up_on s.noted s.numbers.blocks.high _ h.noted (marked_high (block_in s) s.numbers.blocks s.numbers.next s.clock);
-      urged = h.urged;
-    }
+    with_window s (s.numbers.next + 1) (marked (block_in s) s.numbers.blocks s.numbers.next s.clock) (s.window ++ once s.clock ∷ []) h
+    (counted_marked (block_in s) s.clock s.numbers.base s.numbers.next s.numbers.next (s.numbers.next + 1) s.numbers.blocks h.normal (record {
+      low = h.normal.next_from;
+      high = omega arith;
+      within = omega (arith, within, low);
+      from = omega (arith, h.normal.next_from);
+      end = inr refl;
+      rule = ruled (block_in s) s.rules.limit s.clock s.numbers.next s.numbers.blocks rule;
+    }))
+    (omega (arith, length-append s.window (once s.clock ∷ []), h.window)) (All-push (IsTried s.clock) s.window (once s.clock) h.tries (tried_once s.clock))
+    (marked_high (block_in s) s.numbers.blocks s.numbers.next s.clock)
 
 pub sent_first_as : (s : FlowSender) (blocks : Blocks) (window : List Tries) → blocks ≡ marked (block_in s) s.numbers.blocks s.numbers.next s.clock → window ≡ s.window ++ once s.clock ∷ []
     → IsSending s → has_next s ≡ true → rule_allows s s.numbers.blocks s.numbers.next ≡ true
@@ -158,35 +174,20 @@ sent_first_as s blocks window b w h more rule =
 -- the next ED
 pub sent_first_urgent : (s : FlowSender) → IsSending s → s.urgent.out ≡ None → rule_allows s s.urgent.blocks s.urgent.next ≡ true → IsSending (sent_urgent s)
 sent_first_urgent s h none rule =
-    let counted : IsCounted (block_in s) s.clock s.urgent.next s.urgent.next s.urgent.blocks =
-    alone s.urgent.out none h.urgent in
-    record {
-      rules = h.rules;
-      clock = h.clock;
-      credit = h.credit;
-      normal = h.normal;
-      window = h.window;
-      tries = h.tries;
-      first = h.first;
-      units = h.units;
-      octets = h.octets;
-      urgent = (
-        s.urgent.next,
-        refl,
-        counted_marked (block_in s) s.clock s.urgent.next s.urgent.next s.urgent.next (s.urgent.next + 1) s.urgent.blocks counted (record {
-          low = omega arith;
-          high = omega arith;
-          within = omega (arith, some_block s.rules.format);
-          from = omega arith;
-          end = inr refl;
-          rule = ruled (block_in s) s.rules.limit s.clock s.urgent.next s.urgent.blocks rule;
-        }),
-      );
-      out = tried_once s.clock;
-      expedited = h.expedited;
-      noted = h.noted;
-      urged = up_on s.urgent.noted s.urgent.blocks.high _ h.urged (marked_high (block_in s) s.urgent.blocks s.urgent.next s.clock);
-    }
+    let counted : IsCounted (block_in s) s.clock s.urgent.next s.urgent.next s.urgent.blocks = alone s.urgent.out none h.urgent in
+    with_units s s.queue.units (sent_urgent s).urgent h h.units h.octets (
+      s.urgent.next,
+      refl,
+      counted_marked (block_in s) s.clock s.urgent.next s.urgent.next s.urgent.next (s.urgent.next + 1) s.urgent.blocks counted (record {
+        low = omega arith;
+        high = omega arith;
+        within = omega (arith, some_block s.rules.format);
+        from = omega arith;
+        end = inr refl;
+        rule = ruled (block_in s) s.rules.limit s.clock s.urgent.next s.urgent.blocks rule;
+      }),
+    )
+    (tried_once s.clock) h.expedited (up_on s.urgent.noted s.urgent.blocks.high _ h.urged (marked_high (block_in s) s.urgent.blocks s.urgent.next s.clock))
   where
     alone : (out : Option Tries) → out ≡ None → ((base : ℕ) × urgent_base s.urgent out base × IsCounted (block_in s) s.clock base s.urgent.next s.urgent.blocks)
         → IsCounted (block_in s) s.clock s.urgent.next s.urgent.next s.urgent.blocks
@@ -199,29 +200,17 @@ retried s k tries h within few =
     let normal = h.normal in
     let size : length (slice_set s.window k (again s.clock tries)) ≡ length s.window = length-set s.window k (again s.clock tries) in
     let low : s.numbers.next ≤ s.numbers.blocks.high = normal.next_to in
-    record {
-      rules = h.rules;
-      clock = h.clock;
-      credit = h.credit;
-      normal = counted_marked (block_in s) s.clock s.numbers.base s.numbers.next (s.numbers.base + k) s.numbers.next s.numbers.blocks h.normal (record {
-        low = omega arith;
-        high = omega (arith, within, h.window);
-        within = omega (arith, within, h.window, normal.high_low, low);
-        from = normal.next_from;
-        end = inl (omega arith);
-        rule = λ begins. absurd (omega (arith, begins, within, h.window, low, normal.first_to));
-      });
-      window = omega (arith, size, h.window);
-      tries = All-set (IsTried s.clock) s.window k (again s.clock tries) (omega arith, omega (arith, few)) h.tries;
-      first = h.first;
-      units = h.units;
-      octets = h.octets;
-      urgent = h.urgent;
-      out = h.out;
-      expedited = h.expedited;
-      noted = up_on s.noted s.numbers.blocks.high _ h.noted (marked_high (block_in s) s.numbers.blocks (s.numbers.base + k) s.clock);
-      urged = h.urged;
-    }
+    with_window s s.numbers.next (marked (block_in s) s.numbers.blocks (s.numbers.base + k) s.clock) (slice_set s.window k (again s.clock tries)) h
+    (counted_marked (block_in s) s.clock s.numbers.base s.numbers.next (s.numbers.base + k) s.numbers.next s.numbers.blocks h.normal (record {
+      low = omega arith;
+      high = omega (arith, within, h.window);
+      within = omega (arith, within, h.window, normal.high_low, low);
+      from = normal.next_from;
+      end = inl (omega arith);
+      rule = λ begins. absurd (omega (arith, begins, within, h.window, low, normal.first_to));
+    }))
+    (omega (arith, size, h.window)) (All-set (IsTried s.clock) s.window k (again s.clock tries) (omega arith, omega (arith, few)) h.tries)
+    (marked_high (block_in s) s.numbers.blocks (s.numbers.base + k) s.clock)
 
 pub retried_put : (s : FlowSender) (k : ℕ) (tries : Tries) (blocks : Blocks) (window : List Tries) → blocks ≡ marked (block_in s) s.numbers.blocks (s.numbers.base + k) s.clock
     → window ≡ slice_set s.window k (again s.clock tries) → IsSending s → k < length s.window → tries.count < 16
@@ -233,33 +222,19 @@ retried_put s k tries blocks window b w h within few =
 pub retried_urgent : (s : FlowSender) (tries : Tries) → IsSending s → s.urgent.out ≡ Some tries → tries.count < 16 → IsSending (sender.retried_urgent s tries)
 retried_urgent s tries h is few =
     let u = outstanding s.urgent.out is h.urgent in
-    record {
-      rules = h.rules;
-      clock = h.clock;
-      credit = h.credit;
-      normal = h.normal;
-      window = h.window;
-      tries = h.tries;
-      first = h.first;
-      units = h.units;
-      octets = h.octets;
-      urgent = (
-        u.0,
-        u.1,
-        counted_marked (block_in s) s.clock u.0 s.urgent.next (s.urgent.next - 1) s.urgent.next s.urgent.blocks u.2 (record {
-          low = omega (arith, u.1);
-          high = omega arith;
-          within = omega (arith, u.1, some_block s.rules.format);
-          from = omega (arith, u.1);
-          end = inl (omega arith);
-          rule = λ begins. absurd (omega (arith, begins, u.1, u.2.next_to, u.2.first_to));
-        }),
-      );
-      out = (omega arith, omega (arith, few));
-      expedited = h.expedited;
-      noted = h.noted;
-      urged = up_on s.urgent.noted s.urgent.blocks.high _ h.urged (marked_high (block_in s) s.urgent.blocks (s.urgent.next - 1) s.clock);
-    }
+    with_units s s.queue.units (sender.retried_urgent s tries).urgent h h.units h.octets (
+      u.0,
+      u.1,
+      counted_marked (block_in s) s.clock u.0 s.urgent.next (s.urgent.next - 1) s.urgent.next s.urgent.blocks u.2 (record {
+        low = omega (arith, u.1);
+        high = omega arith;
+        within = omega (arith, u.1, some_block s.rules.format);
+        from = omega (arith, u.1);
+        end = inl (omega arith);
+        rule = λ begins. absurd (omega (arith, begins, u.1, u.2.next_to, u.2.first_to));
+      }),
+    )
+    (omega arith, omega (arith, few)) h.expedited (up_on s.urgent.noted s.urgent.blocks.high _ h.urged (marked_high (block_in s) s.urgent.blocks (s.urgent.next - 1) s.clock))
   where
     outstanding : (out : Option Tries) → out ≡ Some tries → ((base : ℕ) × urgent_base s.urgent out base × IsCounted (block_in s) s.clock base s.urgent.next s.urgent.blocks)
         → (base : ℕ) × (base + 1 ≡ s.urgent.next) × IsCounted (block_in s) s.clock base s.urgent.next s.urgent.blocks

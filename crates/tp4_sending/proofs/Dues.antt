@@ -10,7 +10,7 @@ use Rattle.tpdu.specs.declared.service.HeldKind.TheVariants.{Ed}
 use Rattle.tp4_number.specs.declared.blocks.Blocks.{Blocks}
 use Rattle.tp4_number.specs.Sender.{opens_at}
 use Rattle.tp4_sending.specs.declared.tries.Tries.{Tries}
-use Rattle.tp4_sending.specs.FlowSender.{FlowSender, Sendings, nothing, at, block_in, rule_allows, is_noted, holds, is_urgent, has_next, eds, all_dts, marked_all, normals, all_normals, normals_where, sent_urgent, held_urgent, one_urgent, resends, resends_urgent, resends_urgent_as, retried_urgent, new_sends, then_sends, ticked, ticked_as, life_of, is_urgent_spent, urgent_last, urgent_opens, normal_opens, urgent_tried, normal_tried, tried_at, due_of}
+use Rattle.tp4_sending.specs.SendingHalf.{FlowSender, Sendings, nothing, at, block_in, rule_allows, is_noted, holds, is_urgent, has_next, eds, all_dts, marked_all, normals, all_normals, normals_where, sent_urgent, held_urgent, one_urgent, resends, resends_urgent, resends_urgent_as, retried_urgent, new_sends, then_sends, ticked, ticked_as, life_of, is_urgent_spent, urgent_last, urgent_opens, normal_opens, urgent_tried, normal_tried, tried_at, due_of}
 use Rattle.tp4_sending.specs.Pieces.{end_of, again, is_due, is_spent, resent, due_from, least_due, sooner}
 use Rattle.tp4_sending.specs.Settled.{IsDue, IsHeld, IsSettled, Acts, waits_urgent}
 use Rattle.tp4_sending.proofs.Goings.{stop}

@@ -6,7 +6,7 @@ use Rattle.std.proofs.lemmas.List.Sums.{sum_by-cons}
 use Rattle.std.proofs.lemmas.Bool.{lt-ltb, ltb-true, true≢false}
 use Rattle.std.proofs.lemmas.Bool.Decides.{nat_tests}
 use Rattle.tp4_flow.specs.Told.{Told}
-use Rattle.tp4_sending.specs.FlowSender.{FlowSender, Sendings, Sends, nothing, before, dts_of, has_next, rule_allows, sent_normal, one_normal, held_normal, normals, all_normals, Keeps}
+use Rattle.tp4_sending.specs.SendingHalf.{FlowSender, Sendings, Sends, nothing, before, dts_of, has_next, rule_allows, sent_normal, one_normal, held_normal, normals, all_normals, Keeps}
 use Rattle.tp4_sending.specs.Pieces.{cut_at, cut_of, count_in, end_of, Queue}
 
 -- exactly the numbers below the end have a piece

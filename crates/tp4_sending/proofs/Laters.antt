@@ -9,7 +9,7 @@ use Rattle.tpdu.specs.declared.service.HeldKind.TheVariants.{Dt, Ed}
 use Rattle.tp4_number.specs.declared.blocks.Blocks.{Blocks}
 use Rattle.tp4_number.specs.Sender.{opens_at}
 use Rattle.tp4_sending.specs.declared.tries.Tries.{Tries}
-use Rattle.tp4_sending.specs.FlowSender.{FlowSender, nothing, before, then_sends, block_in, rule_allows, is_noted, holds, is_urgent, has_next, eds, dts_of, sent_normal, normals, all_normals, normals_where, sent_urgent, one_urgent, resends, resends_urgent, resends_urgent_as, retried_urgent, new_sends, ticked, ticked_as, life_of, urgent_last, urgent_opens, normal_opens, urgent_tried, normal_tried, tried_at, due_of}
+use Rattle.tp4_sending.specs.SendingHalf.{FlowSender, nothing, before, then_sends, block_in, rule_allows, is_noted, holds, is_urgent, has_next, eds, dts_of, sent_normal, normals, all_normals, normals_where, sent_urgent, one_urgent, resends, resends_urgent, resends_urgent_as, retried_urgent, new_sends, ticked, ticked_as, life_of, urgent_last, urgent_opens, normal_opens, urgent_tried, normal_tried, tried_at, due_of}
 use Rattle.tp4_sending.specs.Pieces.{end_of, once, again, is_due, resent, least_due, sooner}
 use Rattle.tp4_sending.specs.Settled.{IsDue}
 use Rattle.tp4_sending.proofs.Dues.{either_due, first_due, second_due, due_is, urgent_part}

@@ -12,7 +12,7 @@ use Rattle.tp4_flow.specs.declared.step.EndEvent.{EndEvent}
 use Rattle.tp4_flow.specs.declared.step.Sent.{Sent}
 use Rattle.tp4_flow.specs.Told.{Told}
 use Rattle.tp4_sending.specs.declared.tries.Tries.{Tries}
-use Rattle.tp4_sending.specs.FlowSender.{FlowSender, Sendings, Sends, nothing, block_in, dts_of, marked_all, all_dts, resends}
+use Rattle.tp4_sending.specs.SendingHalf.{FlowSender, Sendings, Sends, nothing, block_in, dts_of, marked_all, all_dts, resends}
 use Rattle.tp4_sending.specs.Pieces.{is_due, is_spent, once, again, resent, due_from}
 use Rattle.tp4_sending.specs.steps.Again.{retried, resend_as, resend_at}
 

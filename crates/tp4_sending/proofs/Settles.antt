@@ -7,7 +7,7 @@ use Rattle.tp4_flow.specs.declared.rules.Life.TheVariants.{Goes, Exhausted}
 use Rattle.tpdu.specs.declared.service.HeldKind.TheVariants.{Dt, Ed}
 use Rattle.tp4_number.specs.declared.blocks.Blocks.{Blocks}
 use Rattle.tp4_number.specs.Sender.{opens_at}
-use Rattle.tp4_sending.specs.FlowSender.{FlowSender, nothing, before, then_sends, block_in, rule_allows, is_noted, holds, is_urgent, has_next, dts_of, sent_normal, normals, all_normals, normals_where, sent_urgent, one_urgent, eds, new_sends, is_taken, acknowledged, acknowledged_to, is_outstanding, urgent_done, ticked, ticked_as, life_of, resends, resends_urgent, resends_urgent_as, retried_urgent}
+use Rattle.tp4_sending.specs.SendingHalf.{FlowSender, nothing, before, then_sends, block_in, rule_allows, is_noted, holds, is_urgent, has_next, dts_of, sent_normal, normals, all_normals, normals_where, sent_urgent, one_urgent, eds, new_sends, is_taken, acknowledged, acknowledged_to, is_outstanding, urgent_done, ticked, ticked_as, life_of, resends, resends_urgent, resends_urgent_as, retried_urgent}
 use Rattle.tp4_sending.specs.Pieces.{end_of, is_due}
 use Rattle.tp4_sending.specs.Settled.{IsHeld, IsSettled, waits_urgent, waits_normal}
 use Rattle.tp4_sending.specs.declared.tries.Tries.{Tries}

@@ -1,7 +1,7 @@
 -- One step, and then the next.
 use Rattle.std.proofs.Common.{◌≡◌, ◌++◌, append_assoc, ◌∙◌, ap, subst}
 use Rattle.tp4_flow.specs.Told.{Told}
-use Rattle.tp4_sending.specs.FlowSender.{FlowSender, Sendings, Sends, then_sends}
+use Rattle.tp4_sending.specs.SendingHalf.{FlowSender, Sendings, Sends, then_sends}
 
 pub then_done : (x : Sendings) (next : FlowSender → Sendings) (mid new : FlowSender) (was between is : Told)
     → Sends x mid was between → Sends (next mid) new between is → Sends (then_sends x next) new was is

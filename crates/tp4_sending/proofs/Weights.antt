@@ -7,7 +7,7 @@ use Rattle.std.proofs.lemmas.Bool.{le-leb, and_parts, ltb-true, true≢false, ca
 use Rattle.std.proofs.lemmas.List.Sums.{sum_by-cons, sum_by-append}
 use Rattle.tpdu.specs.declared.service.HeldKind.TheVariants.{Dt, Ed}
 use Rattle.tp4_sending.specs.declared.tries.Tries.{Tries}
-use Rattle.tp4_sending.specs.FlowSender.{FlowSender, Sendings, nothing, before, rule_allows, is_noted, holds, is_urgent, has_next, dts_of, eds, sent_normal, normals, all_normals, normals_where, sent_urgent, one_urgent, resends, resends_urgent_as, retried_urgent}
+use Rattle.tp4_sending.specs.SendingHalf.{FlowSender, Sendings, nothing, before, rule_allows, is_noted, holds, is_urgent, has_next, dts_of, eds, sent_normal, normals, all_normals, normals_where, sent_urgent, one_urgent, resends, resends_urgent_as, retried_urgent}
 use Rattle.tp4_sending.specs.Pieces.{end_of, is_due, once, again, resent, least_due, sooner}
 use Rattle.tp4_sending.specs.Settled.{IsDue, waits_urgent}
 

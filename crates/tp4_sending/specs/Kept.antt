@@ -6,7 +6,7 @@ use Rattle.tpdu.specs.declared.tpdu.Format.TheVariants.{Normal, Extended}
 use Rattle.tp4_flow.specs.declared.rules.FlowRules.{FlowRules}
 use Rattle.tp4_number.specs.declared.blocks.Blocks.{Blocks}
 use Rattle.tp4_sending.specs.declared.tries.Tries.{Tries}
-use Rattle.tp4_sending.specs.FlowSender.{FlowSender, UrgentSender, block_in}
+use Rattle.tp4_sending.specs.SendingHalf.{FlowSender, UrgentSender, block_in}
 
 -- the terms of a connection have these bounds
 pub record IsRules (rules : FlowRules) : Type 0 where

@@ -1,6 +1,6 @@
 pub mod Cutting
-pub mod FlowSender
 pub mod Kept
 pub mod Pieces
+pub mod SendingHalf
 pub mod Settled
 pub mod steps

@@ -4,7 +4,7 @@ use Rattle.std.specs.Prelude.{◌≡◌, ◌≢◌, ℕ, ◌≤◌, ◌⊎◌, B
 use Rattle.tp4_flow.specs.declared.rules.Life.TheVariants.{Exhausted}
 use Rattle.tp4_number.specs.declared.blocks.Blocks.{Blocks}
 use Rattle.tp4_number.specs.Sender.{opens_at}
-use Rattle.tp4_sending.specs.FlowSender.{FlowSender, nothing, block_in, is_noted, is_urgent, has_next, life_of, ticked}
+use Rattle.tp4_sending.specs.SendingHalf.{FlowSender, nothing, block_in, is_noted, is_urgent, has_next, life_of, ticked}
 
 -- the number rule holds this number back up to some tick, and that was told
 pub record IsHeld (block limit : ℕ) (blocks : Blocks) (n : ℕ) (noted : Option ℕ) : Type 0 where

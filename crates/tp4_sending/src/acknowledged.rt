@@ -4,7 +4,7 @@
 ghost use Rattle.std.specs.Prelude.{◌≡◌, ◌<◌, ◌≤◌, ◌*◌, true};
 ghost use Rattle.tp4_number.specs.Formats.{block_of};
 ghost use Rattle.tp4_number.specs.Number.{near};
-ghost use Rattle.tp4_sending.specs.FlowSender.{acknowledged_to, is_taken, is_outstanding};
+ghost use Rattle.tp4_sending.specs.SendingHalf.{acknowledged_to, is_taken, is_outstanding};
 ghost use Rattle.tp4_sending.specs.Kept.{most_granted};
 
 use crate::cutting::free;

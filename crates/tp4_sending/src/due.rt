@@ -3,7 +3,7 @@
 ghost use Rattle.std.specs.Prelude.{◌≡◌, ◌+◌, nat_le};
 ghost use Rattle.std.specs.List.{All};
 ghost use Rattle.tp4_sending.specs.Kept.{IsTried};
-ghost use Rattle.tp4_sending.specs.FlowSender.{urgent_opens, normal_opens, urgent_last, tried_at};
+ghost use Rattle.tp4_sending.specs.SendingHalf.{urgent_opens, normal_opens, urgent_last, tried_at};
 ghost use Rattle.tp4_sending.specs.Pieces.{sooner, least_due};
 
 use crate::sending::Sending;

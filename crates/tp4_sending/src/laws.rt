@@ -6,7 +6,7 @@ ghost use Rattle.std.specs.List.{sum_by};
 ghost use Rattle.tp4_flow.specs.declared.rules.Life.TheVariants.{Goes};
 ghost use Rattle.tp4_number.specs.Window.{joined};
 ghost use Rattle.tp4_sending.specs.Cutting.{cuts};
-ghost use Rattle.tp4_sending.specs.FlowSender.{FlowSender, at, nothing, life_of, opened, submitted, urged, acknowledged, urgent_done, ticked, due_of, rule_allows};
+ghost use Rattle.tp4_sending.specs.SendingHalf.{FlowSender, at, nothing, life_of, opened, submitted, urged, acknowledged, urgent_done, ticked, due_of, rule_allows};
 ghost use Rattle.tp4_sending.specs.Kept.{IsSending, IsUpTo};
 ghost use Rattle.tp4_sending.specs.Pieces.{count_in};
 ghost use Rattle.tp4_sending.specs.Settled.{IsSettled, IsDue, Acts};

@@ -1,7 +1,7 @@
 //! What a sending half sends again, and when it gives up (X.224, retransmission on time-out).
 
 ghost use Rattle.std.specs.Prelude.{◌≡◌, ◌<◌, ◌||◌, false, Some, OnOk, length, get_or};
-ghost use Rattle.tp4_sending.specs.FlowSender.{Sends, Keeps, resends, resends_urgent, retried_urgent, is_window_spent, is_urgent_spent};
+ghost use Rattle.tp4_sending.specs.SendingHalf.{Sends, Keeps, resends, resends_urgent, retried_urgent, is_window_spent, is_urgent_spent};
 ghost use Rattle.tp4_sending.specs.steps.Again.{resend_at, retried};
 ghost use Rattle.tp4_sending.specs.Kept.{IsTried};
 ghost use Rattle.tp4_sending.specs.Pieces.{is_spent, once};

@@ -5,7 +5,7 @@ ghost use Rattle.std.specs.Prelude.{◌≡◌, ◌↔◌, ◌<◌, ◌≤◌, �
 ghost use Rattle.tp4_number.specs.Formats.{block_of};
 ghost use Rattle.tp4_number.specs.Number.{near};
 ghost use Rattle.tp4_number.specs.Sender.{may_send};
-ghost use Rattle.tp4_sending.specs.FlowSender.{fresh, at, opened, submitted, urged, is_taken, acknowledged, is_outstanding, urgent_done, life_of, ticked, due_of, refusal, urgent_refusal, Sends, Keeps};
+ghost use Rattle.tp4_sending.specs.SendingHalf.{fresh, at, opened, submitted, urged, is_taken, acknowledged, is_outstanding, urgent_done, life_of, ticked, due_of, refusal, urgent_refusal, Sends, Keeps};
 ghost use Rattle.tp4_sending.specs.Kept.{IsRules, most_granted};
 ghost use Rattle.tp4_sending.specs.Settled.{Acts, IsDue};
 
@@ -50,7 +50,7 @@ pub struct Sending {
 // of the units are counted. Each number that was sent has its piece, and an ED that is outstanding its unit. What is known of the
 // window is so.
 impl Model for Sending {
-    ghost use Rattle.tp4_sending.specs.FlowSender.{FlowSender};
+    ghost use Rattle.tp4_sending.specs.SendingHalf.{FlowSender};
     ghost use Rattle.tp4_sending.specs.Kept.{IsSending};
     ghost use Rattle.tp4_sending.specs.steps.Known.{IsKnown};
     ghost use Rattle.tp4_sending.specs.steps.There.{IsThere};

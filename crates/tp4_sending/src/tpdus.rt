@@ -1,7 +1,7 @@
 //! The TPDUs of a sending half: the DT and the ED of a number (X.224, DT TPDU, ED TPDU).
 
 ghost use Rattle.std.specs.Prelude.{◌≡◌, IfOk};
-ghost use Rattle.tp4_sending.specs.FlowSender.{dt_sent, ed_sent};
+ghost use Rattle.tp4_sending.specs.SendingHalf.{dt_sent, ed_sent};
 
 use osi_base::{Bytes, NoMemory};
 use std::alloc::Global;

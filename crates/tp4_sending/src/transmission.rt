@@ -2,14 +2,14 @@
 //! data).
 
 ghost use Rattle.std.specs.Prelude.{◌≡◌, ◌<◌, ◌≤◌, ◌-◌, ◌++◌, true, OnOk, Some, length, option_map};
-ghost use Rattle.tp4_sending.specs.FlowSender.{Sends, Keeps, new_sends, one_urgent, held_urgent, normals_where, all_normals, one_normal, held_normal, rule_allows, holds, has_next, dts_of, eds};
+ghost use Rattle.tp4_sending.specs.SendingHalf.{Sends, Keeps, new_sends, normals_where, all_normals, one_normal, held_normal, rule_allows, holds, has_next, dts_of};
 ghost use Rattle.tp4_sending.specs.Pieces.{cut_at, end_of, sooner};
 ghost use Rattle.tp4_sending.specs.steps.Lent.{piece_of};
 
 use crate::cutting::{PieceRef, piece_at};
 use crate::due::sooner;
 use crate::sending::Sending;
-use crate::tpdus::{dt_of, ed_of};
+use crate::tpdus::dt_of;
 use crate::tries::Tries;
 use circular_buffer::HeapCircularBuffer;
 use osi_base::{NoMemory, Tick};
@@ -26,51 +26,6 @@ impl Sending {
         if self.is_open {
             self.send_urgent(out)?;
             self.send_normals(out)?;
-        }
-        Ok(())
-    }
-
-    /// The next ED goes, where none is outstanding and the number rule allows it.
-    #[tactic(auto, using(crate::proofs::Counts::sent_first_urgent))]
-    fn send_urgent(&mut self, out: &mut Step) -> Result<(), NoMemory>
-        ensures step { OnOk result (Sends (one_urgent self.old) self.new out.old out.new) }
-        ensures kept { Keeps self.old self.new self.old.clock }
-    {
-        if self.urgent.out.is_some() || self.urgent.units.is_empty() {
-            return Ok(());
-        }
-        let (format, limit) = (self.rules.format, self.rules.limit);
-        let n = self.urgent.next;
-        if !self.urgent.blocks.may_send(format, limit, n, self.clock) {
-            return self.hold_urgent(out);
-        }
-        self.send_ed(n, out)?;
-        self.urgent.blocks.mark(format, n, self.clock);
-        self.urgent.next = n + 1;
-        self.urgent.out = Some(Tries::once(self.clock));
-        Ok(())
-    }
-
-    /// The ED of a number goes, with the first unit that waits.
-    pub(crate) fn send_ed(&self, n: u64, out: &mut Step) -> Result<(), NoMemory>
-        requires { 0 < length self.now.urgent.units }
-        ensures { OnOk result (out.new ≡ record out.old { tpdus = out.old.tpdus ++ eds self.now n self.now.urgent.units }) }
-    {
-        let Some(unit) = self.urgent.units.front() else {
-            unreachable!();
-        };
-        out.send(ed_of(self.alloc, &self.rules, n, unit.as_slice())?)
-    }
-
-    /// The number of the next ED is told as held, once.
-    fn hold_urgent(&mut self, out: &mut Step) -> Result<(), NoMemory>
-        ensures step { OnOk result (Sends (held_urgent self.old) self.new out.old out.new) }
-        ensures kept { Keeps self.old self.new self.old.clock }
-    {
-        let n = self.urgent.next;
-        if self.urgent.noted != Some(n) {
-            out.event(self.held(HeldKind::Ed, n))?;
-            self.urgent.noted = Some(n);
         }
         Ok(())
     }
@@ -156,7 +111,7 @@ impl Sending {
     }
 
     /// The event of a number that is held.
-    fn held(&self, kind: HeldKind, n: u64) -> EndEvent
+    pub(crate) fn held(&self, kind: HeldKind, n: u64) -> EndEvent
         ensures { result ≡ holds self.now kind n }
     {
         EndEvent {

@@ -6,7 +6,7 @@ use Rattle.std.specs.List.{AllByRecursion}
 use Rattle.tpdu.specs.declared.tpdu.Tpdu.{Tpdu}
 use Rattle.tpdu.specs.declared.tpdu.Tpdu.TheVariants.{Cr, Cc, Dr, Dc, Dt, Ed, Ak, Ea, Er}
 use Rattle.tp4_number.specs.declared.got.Got.{Got}
-use Rattle.tp4_number.specs.declared.got.Got.TheVariants.{Kept, Old, Outside, TooLarge}
+use Rattle.tp4_number.specs.declared.got.Got.TheVariants.{TooLarge}
 use Rattle.tp4_number.specs.declared.piece.Piece.{Piece}
 use Rattle.tp4_flow.specs.declared.rules.Life.{Life}
 use Rattle.tp4_flow.specs.declared.rules.Life.TheVariants.{Goes, Exhausted as Spent}
@@ -14,9 +14,9 @@ use Rattle.tpdu.specs.declared.service.Options.{Options}
 use Rattle.tp4_flow.specs.declared.step.EndEvent.{EndEvent}
 use Rattle.tpdu.specs.declared.service.GoneCause.TheVariants.{Reason, Protocol, Inactive, Exhausted, AnswerTime}
 use Rattle.tp4_flow.specs.declared.step.Sent.{Sent}
-use Rattle.tp4_flow.specs.Half.{Half, Received, ak, aks, dt_arrival, half_after, half_granted, is_before, is_next, taken_dt, taken_ed}
+use Rattle.tp4_flow.specs.ReceivingHalf.{Half, Received, ak, aks, dt_arrival, half_after, half_granted, is_before, is_next, taken_dt, taken_ed}
 use Rattle.tp4_sending.specs.declared.tries.Tries.{Tries}
-use Rattle.tp4_sending.specs.FlowSender.{FlowSender, Sendings, acknowledged, acknowledged_to, all_dts, at, block_in, dts, dts_of, due_numbers, eds, has_next, is_noted, is_outstanding, is_taken, is_urgent, life_of, new_sends, normals, normals_where, nothing, one_urgent, opened, resends, resends_urgent, resends_urgent_as, rule_allows, sent_normal, submitted, then_sends, ticked, ticked_as, urged, urgent_done}
+use Rattle.tp4_sending.specs.SendingHalf.{FlowSender, Sendings, acknowledged, acknowledged_to, all_dts, at, block_in, dts, dts_of, due_numbers, eds, has_next, is_noted, is_outstanding, is_taken, is_urgent, life_of, new_sends, normals, normals_where, nothing, one_urgent, opened, resends, resends_urgent, resends_urgent_as, rule_allows, sent_normal, submitted, then_sends, ticked, ticked_as, urged, urgent_done}
 use Rattle.tp4_sending.specs.Pieces.{cut_at, is_due}
 use Rattle.tp4_number.specs.Number.{near}
 use Rattle.tp4_conn.specs.declared.end_record.EndRecord.{EndRecord}
@@ -226,16 +226,12 @@ receiving_to : (to : List ℕ) (b : EndRecord) (o : InOpened) (r : Received) →
 receiving_to to b o r is halves rules all = record { base = is; stage = (halves.0, rules); tpdus = all }
 
 aks_to : (to : List ℕ) (got : Got) (h : Half) → h.rules.to ≡ to → AllTo to (aks got h)
-aks_to to Kept h is = (is, tt)
-aks_to to Old h is = (is, tt)
-aks_to to Outside h is = (is, tt)
 aks_to to TooLarge h is = tt
+aks_to to got h is = (is, tt)
 
 dt_as_to : (to : List ℕ) (got : Got) (b : EndRecord) (o : InOpened) (r : Received) → b.to ≡ to → HalvesTo to o.halves → r.half.rules.to ≡ to → AllTo to r.tpdus → MovesTo to (dt_as got b o r)
 dt_as_to to TooLarge b o r is halves rules all = led_to to r.events r.tpdus (protocol_error b) all (closing_to to b (gone b Protocol []) 133 [] b.clock is)
-dt_as_to to Kept b o r is halves rules all = receiving_to to b (acking b o) r is halves rules all
-dt_as_to to Old b o r is halves rules all = receiving_to to b (acking b o) r is halves rules all
-dt_as_to to Outside b o r is halves rules all = receiving_to to b (acking b o) r is halves rules all
+dt_as_to to got b o r is halves rules all = receiving_to to b (acking b o) r is halves rules all
 
 ed_to : (to : List ℕ) (wrap : ℕ → ℕ → ℕ) (b : EndRecord) (o : InOpened) (w : ℕ) (octets : List ℕ) → b.to ≡ to → HalvesTo to o.halves → MovesTo to (receiving b o (taken_ed wrap o.halves.receiving w octets))
 ed_to to wrap b o w octets is halves =
@@ -297,9 +293,7 @@ ak_wait_to to wrap b w (Ed destination last number text) is halves = opening_to 
 ak_wait_to to wrap b w (Ea destination number) is halves = opening_to to wrap b w.halves (Ea destination number) is halves
 ak_wait_to to wrap b w (Dr destination source reason info text) is halves = frozen_to to b (gone b (Reason reason) text) (confirms b source) is (confirms_to to b source is)
 ak_wait_to to wrap b w (Er destination cause rejected) is halves = closing_to to b (gone b Protocol []) 133 [] w.first is
-ak_wait_to to wrap b w (Cr credit source width calling called size preferred extra version classes ack_time text) is halves = record { base = is; stage = halves; tpdus = tt }
-ak_wait_to to wrap b w (Cc credit destination source width calling called size preferred extra version classes ack_time text) is halves = record { base = is; stage = halves; tpdus = tt }
-ak_wait_to to wrap b w (Dc destination source) is halves = record { base = is; stage = halves; tpdus = tt }
+ak_wait_to to wrap b w tpdu is halves = record { base = is; stage = halves; tpdus = tt }
 
 again_to : (to : List ℕ) (b : EndRecord) (agreed : Option Options) (octets : List ℕ) → b.to ≡ to → AllTo to (confirms_again b agreed octets)
 again_to to b None octets is = tt

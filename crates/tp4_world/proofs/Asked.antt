@@ -22,7 +22,8 @@ use Rattle.tp4_entity.specs.Step.{DoesSo, calling, connect_refusal, connecting, 
 use Rattle.tp4_world.proofs.Acting.{acts, nothing}
 use Rattle.tp4_world.proofs.Entities.{changed_there, entity_there}
 use Rattle.tp4_world.proofs.Places.{some_same}
-use Rattle.tp4_world.specs.Run.{Acts, BeginsAt, Calls, CallsAt, CallsBy, CallsEnd, Connects, ConnectsBy, IsRefused, clock_of, has_ended}
+use Rattle.tp4_world.specs.Run.{Acts, BeginsAt, Calls, CallsAt, CallsBy, CallsEnd, Connects, ConnectsBy, IsRefused, clock_of}
+use Rattle.tp4_world.specs.Ended.{has_ended}
 use Rattle.tp4_world.specs.Telling.{call_events, connect_event, told_connect, told_refusal}
 use Rattle.tp4_world.specs.World.{World, end_numbered, entity_at, is_of, with_entity}
 use Rattle.tp4_world.specs.declared.place.EndAt.{EndAt}

@@ -14,7 +14,8 @@ use Rattle.tp4_conn.specs.Matching.{is_match}
 use Rattle.tp4_conn.specs.Table.{Called, Ticked, Took, due, stepped}
 use Rattle.tp4_entity.specs.Association.{answer, is_called, is_registered, met, met_at, met_by, new_end, requested, stateless, unmatched}
 use Rattle.tp4_entity.specs.Entity.{Acted, Entity, at, end_at, moved, there, with_end}
-use Rattle.tp4_entity.specs.References.{least_free, is_silent}
+use Rattle.tp4_entity.specs.References.{least_free}
+use Rattle.tp4_entity.specs.Silence.{is_silent}
 use Rattle.tp4_entity.specs.Step.{call_of, calling, calling_end, connecting, first_due, kept_end, ticking, ticking_at, ticking_end}
 use Rattle.tp4_entity.specs.Unit.{HearsUnit, all_met, TakesBy, TakesUnit}
 use Rattle.tp4_world.proofs.Addressees.{AllTo, MovesTo, PointsTo, all_append, either, row_to}
@@ -107,13 +108,7 @@ module _ (Fine : List ℕ → Type 0) where
     stateless_fine : (tpdu : Tpdu) → SentFine (stateless from tpdu)
     stateless_fine (Cc credit destination source width calling called size preferred extra version classes ack_time text) = (fine, tt)
     stateless_fine (Dr destination source reason info text) = either SentFine (source == 0) [] (answer from (Dc source destination) ∷ []) tt (fine, tt)
-    stateless_fine (Cr credit source width calling called size preferred extra version classes ack_time text) = tt
-    stateless_fine (Dc destination source) = tt
-    stateless_fine (Dt destination last number text) = tt
-    stateless_fine (Ed destination last number text) = tt
-    stateless_fine (Ak destination number credit subsequence confirmation) = tt
-    stateless_fine (Ea destination number) = tt
-    stateless_fine (Er destination cause rejected) = tt
+    stateless_fine tpdu = tt
 
     unmatched_fine : (e : Entity) (tpdu : Tpdu) → EndsFine e.ends → ActsFine e.own (unmatched e from tpdu)
     unmatched_fine e tpdu all = record { own_is = refl; ends = all; tpdus = stateless_fine tpdu }
@@ -133,14 +128,7 @@ module _ (Fine : List ℕ → Type 0) where
     made_fine now e source cr None all = record { own_is = refl; ends = all; tpdus = (fine, tt) }
     made_fine now e source (Cr credit reference width calling called size preferred extra version classes ack_time text) (Some own) all =
         moved_fine e own _ from all (record { base = refl; stage = tt; tpdus = tt }) fine
-    made_fine now e source (Cc credit destination other width calling called size preferred extra version classes ack_time text) (Some own) all = record { own_is = refl; ends = all; tpdus = tt }
-    made_fine now e source (Dr destination other reason info text) (Some own) all = record { own_is = refl; ends = all; tpdus = tt }
-    made_fine now e source (Dc destination other) (Some own) all = record { own_is = refl; ends = all; tpdus = tt }
-    made_fine now e source (Dt destination last number text) (Some own) all = record { own_is = refl; ends = all; tpdus = tt }
-    made_fine now e source (Ed destination last number text) (Some own) all = record { own_is = refl; ends = all; tpdus = tt }
-    made_fine now e source (Ak destination number credit subsequence confirmation) (Some own) all = record { own_is = refl; ends = all; tpdus = tt }
-    made_fine now e source (Ea destination number) (Some own) all = record { own_is = refl; ends = all; tpdus = tt }
-    made_fine now e source (Er destination cause rejected) (Some own) all = record { own_is = refl; ends = all; tpdus = tt }
+    made_fine now e source cr (Some own) all = record { own_is = refl; ends = all; tpdus = tt }
 
     requested_fine : (now : ℕ) (e : Entity) (source : ℕ) (called : List ℕ) (cr : Tpdu) → EndsFine e.ends → ActsFine e.own (requested now e from source called cr)
     requested_fine now e source called cr all =

@@ -3,7 +3,8 @@ use Rattle.std.proofs.Common.{◌≡◌, ℕ, zero, suc, ◌+◌, ◌==◌, nat_
 use Rattle.std.specs.Prelude.{is_some, option_map}
 use Rattle.std.specs.List.{find, list_any, position, position_or_len}
 use Rattle.tp4_entity.specs.Entity.{Entity}
-use Rattle.tp4_world.proofs.Places.{first_at, first_is_some, found_at, no_first, none_passes, some_same}
+use Rattle.osi_base.proofs.Firsts.{first_at}
+use Rattle.tp4_world.proofs.Places.{first_is_some, found_at, no_first, none_passes, some_same}
 use Rattle.tp4_world.specs.World.{entity_at, is_of, with_entity}
 use Rattle.tp4_world.specs.declared.place.Placed.{Placed}
 use Rattle.tp4_world.specs.steps.Parts.{systems_of}

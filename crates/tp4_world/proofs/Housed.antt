@@ -17,7 +17,8 @@ use Rattle.tp4_entity.specs.Entity.{Acted, Entity}
 use Rattle.tp4_entity.specs.References.{least_free}
 use Rattle.tp4_entity.specs.Step.{connect_refusal, connecting, user_refusal}
 use Rattle.law_tp4_proper.proofs.Octets.{all_both}
-use Rattle.tp4_world.specs.Run.{Acts, Arrives, BeginsAt, Calls, CallsAt, CallsBy, CallsEnd, Connects, ConnectsBy, HearsAll, HearsIf, IsRefused, NoneDue, NoneLeft, OneDue, OneMore, Settles, TicksAll, TicksEntity, TooMany, clock_of, has_ended, is_for}
+use Rattle.tp4_world.specs.Run.{Acts, Arrives, BeginsAt, Calls, CallsAt, CallsBy, CallsEnd, Connects, ConnectsBy, HearsAll, HearsIf, IsRefused, NoneDue, NoneLeft, OneDue, OneMore, Settles, TicksAll, TicksEntity, TooMany, clock_of, is_for}
+use Rattle.tp4_world.specs.Ended.{has_ended}
 use Rattle.tp4_world.specs.Telling.{told_connect, told_refusal}
 use Rattle.tp4_world.specs.Total.{HasEntity}
 use Rattle.tp4_world.specs.World.{World, end_numbered, entity_at, with_entity}

@@ -44,7 +44,8 @@ use Rattle.tp4_world.specs.Asked.{AsksOne, IsAsked, asked_in, is_asked}
 use Rattle.tp4_world.specs.Laws.{TellsAsked}
 use Rattle.tp4_world.specs.Called.{Did, DidAll, InjectsNothing, WorldCall}
 use Rattle.tp4_world.specs.Called as requests
-use Rattle.tp4_world.specs.Run.{Acts, Arrives, BeginsAt, Calls, CallsAt, CallsBy, CallsEnd, Connects, ConnectsBy, HearsAll, HearsIf, IsRefused, NoneDue, NoneLeft, OneDue, OneMore, RunsLine, RunsLines, SendsTpdu, SendsTpdus, Settles, Ticks, TicksAll, TicksEntity, TooMany, clock_of, has_ended, is_for, transport_wish}
+use Rattle.tp4_world.specs.Run.{Acts, Arrives, BeginsAt, Calls, CallsAt, CallsBy, CallsEnd, Connects, ConnectsBy, HearsAll, HearsIf, IsRefused, NoneDue, NoneLeft, OneDue, OneMore, RunsLine, RunsLines, SendsTpdu, SendsTpdus, Settles, Ticks, TicksAll, TicksEntity, TooMany, clock_of, is_for, transport_wish}
+use Rattle.tp4_world.specs.Ended.{has_ended}
 use Rattle.tp4_world.specs.Telling.{call_events, connect_event, drop_events, ends_with, event_for, events_after, inject_event}
 use Rattle.tp4_world.specs.World.{World, end_numbered, entity_at, latest}
 use Rattle.tp4_world.specs.declared.place.EndAt.{EndAt}
@@ -83,10 +84,7 @@ told_none (Came arrival ∷ ups) =
 
 what_none : (system : ℕ) (own : List ℕ) (number reference : ℕ) (what : What) (rest : List Event) → asked_in rest ≡ [] → asked_in (event_for system own number reference what ∷ rest) ≡ []
 what_none system own number reference (whats.Incoming from partner calling called options octets) rest none = none
-what_none system own number reference (whats.End what) rest none = none
-what_none system own number reference (whats.BadTpdu cause place) rest none = none
-what_none system own number reference (whats.Unknown kind) rest none = none
-what_none system own number reference whats.Silent rest none = none
+what_none system own number reference what rest none = none
 
 ends_none : (all : List EndEvent) (ends : List EndAt) (system : ℕ) (own : List ℕ) → asked_in (events_after ends system own all) ≡ []
 ends_none [] ends system own = refl
@@ -100,10 +98,7 @@ drop_none system (Dropped cause) = refl
 
 picked_none : (number system : ℕ) (answer : Picked) (rest : List Event) → asked_in rest ≡ [] → asked_in (picked_event number system answer ∷ rest) ≡ []
 picked_none number system picks.Taken rest none = none
-picked_none number system picks.NoSuch rest none = none
-picked_none number system picks.Late rest none = none
-picked_none number system picks.NotThere rest none = none
-picked_none number system picks.NotOurs rest none = none
+picked_none number system answer rest none = none
 
 inject_none : (system : ℕ) (answer : Injected) (rest : List Event) → asked_in rest ≡ [] → asked_in (inject_event system answer ∷ rest) ≡ []
 inject_none system injects.Taken rest none = none
@@ -362,18 +357,7 @@ module _ {C : Type 0} (link : C → Link (List ℕ)) (steps : C → Call (List �
   line_alike wrap titles lines.Settle old new made none h = (settled wrap 0 old made new h).honest
   line_alike wrap titles (lines.Inject lan system octets) old new made none h = absurd none
   line_alike wrap titles (lines.Restart system) old new made none h = ap (λ (w : World C). (link w.carrier).honest) h.3
-  line_alike wrap titles (lines.Send system selector to called_selector octets) old new made none h = absurd h
-  line_alike wrap titles (lines.Version version) old new made none h = absurd h
-  line_alike wrap titles (lines.Set key value) old new made none h = absurd h
-  line_alike wrap titles (lines.Lan name bound room) old new made none h = absurd h
-  line_alike wrap titles (lines.Es name title) old new made none h = absurd h
-  line_alike wrap titles (lines.Is name title) old new made none h = absurd h
-  line_alike wrap titles (lines.Port system lan snpa) old new made none h = absurd h
-  line_alike wrap titles (lines.Route system prefix hop lan) old new made none h = absurd h
-  line_alike wrap titles (lines.Path name kind systems) old new made none h = absurd h
-  line_alike wrap titles (lines.Tsap system selector) old new made none h = absurd h
-  line_alike wrap titles (lines.Relay system selector to called_selector) old new made none h = absurd h
-  line_alike wrap titles lines.Start old new made none h = absurd h
+  line_alike wrap titles line old new made none h = absurd h
 
   -- it was honest before a line after which it is
   pub line_back : (wrap : ℕ → ℕ → ℕ) (titles : List (List ℕ)) (line : Line) (old new : World C) (made : List Event) → RunsLine link steps wrap titles old line made new → (link new.carrier).honest ≡ true
@@ -419,18 +403,7 @@ module _ {C : Type 0} (link : C → Link (List ℕ)) (steps : C → Call (List �
   line_asked wrap titles lines.Settle old new made h = (settled wrap 0 old made new h).none
   line_asked wrap titles (lines.Inject lan system octets) old new made h = (injected wrap old new lan system octets h.0 made h.1).none
   line_asked wrap titles (lines.Restart system) old new made h = ap asked_in h.2
-  line_asked wrap titles (lines.Send system selector to called_selector octets) old new made h = absurd h
-  line_asked wrap titles (lines.Version version) old new made h = absurd h
-  line_asked wrap titles (lines.Set key value) old new made h = absurd h
-  line_asked wrap titles (lines.Lan name bound room) old new made h = absurd h
-  line_asked wrap titles (lines.Es name title) old new made h = absurd h
-  line_asked wrap titles (lines.Is name title) old new made h = absurd h
-  line_asked wrap titles (lines.Port system lan snpa) old new made h = absurd h
-  line_asked wrap titles (lines.Route system prefix hop lan) old new made h = absurd h
-  line_asked wrap titles (lines.Path name kind systems) old new made h = absurd h
-  line_asked wrap titles (lines.Tsap system selector) old new made h = absurd h
-  line_asked wrap titles (lines.Relay system selector to called_selector) old new made h = absurd h
-  line_asked wrap titles lines.Start old new made h = absurd h
+  line_asked wrap titles line old new made h = absurd h
 
   pub tells_asked : TellsAsked link steps
   tells_asked wrap titles first [] journal last h = h.0

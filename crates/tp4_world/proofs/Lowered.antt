@@ -26,7 +26,8 @@ use Rattle.tp4_world.proofs.OnWire.{connect_refusal_on, ended_on, first_due_on, 
 use Rattle.tp4_world.proofs.Whole.{OverWires}
 use Rattle.tp4_world.specs.Laws.{WireLine}
 use Rattle.tp4_world.specs.Wire.{placed_on_wire, world_on_wire}
-use Rattle.tp4_world.specs.Run.{Acts, Arrives, BeginsAt, Calls, CallsAt, CallsBy, CallsEnd, Connects, ConnectsBy, Hears, HearsAll, HearsIf, IsRefused, NoneDue, NoneLeft, OneDue, OneMore, RunsLine, Settles, Ticks, TicksAll, TicksEntity, TooMany, clock_of, has_ended, is_for}
+use Rattle.tp4_world.specs.Run.{Acts, Arrives, BeginsAt, Calls, CallsAt, CallsBy, CallsEnd, Connects, ConnectsBy, Hears, HearsAll, HearsIf, IsRefused, NoneDue, NoneLeft, OneDue, OneMore, RunsLine, Settles, Ticks, TicksAll, TicksEntity, TooMany, clock_of, is_for}
+use Rattle.tp4_world.specs.Ended.{has_ended}
 use Rattle.tp4_world.specs.Telling.{ends_after, inject_event}
 use Rattle.tp4_world.specs.World.{World, end_numbered, entity_at, with_entity}
 use Rattle.tp4_world.specs.declared.place.EndAt.{EndAt}
@@ -215,18 +216,7 @@ module _ {C : Type 0} (link : C → Link (List ℕ)) (steps : C → Call (List �
             ∙ ap (λ (ps : List Placed). record (on old) { entities = ps }) (sym (with_on old.entities system (restarted clock a.0)))
             ∙ ap (λ (x : Entity). record (on old) { entities = with_entity (map placed_on_wire old.entities) system x }) (sym (restarted_on clock a.0)),
       )
-  line_below titles old (lines.Send system selector to called octets) made new a = absurd a
-  line_below titles old (lines.Version version) made new a = absurd a
-  line_below titles old (lines.Set key value) made new a = absurd a
-  line_below titles old (lines.Lan name bound room) made new a = absurd a
-  line_below titles old (lines.Es name title) made new a = absurd a
-  line_below titles old (lines.Is name title) made new a = absurd a
-  line_below titles old (lines.Port system lan snpa) made new a = absurd a
-  line_below titles old (lines.Route system prefix hop lan) made new a = absurd a
-  line_below titles old (lines.Path name kind systems) made new a = absurd a
-  line_below titles old (lines.Tsap system selector) made new a = absurd a
-  line_below titles old (lines.Relay system selector to called) made new a = absurd a
-  line_below titles old lines.Start made new a = absurd a
+  line_below titles old line made new a = absurd a
 
 pub wire_line : {C : Type 0} (link : C → Link (List ℕ)) (steps : C → Call (List ℕ) → C → Type 0) → OverWires → WireLine link steps
 wire_line link steps over titles old line made new step = line_below link steps over titles old line made new step

@@ -1,108 +1,38 @@
 -- What an entity is asked is the same of its ends as they stand on the wire: which references are free, which end is due, what is refused.
-use Rattle.std.proofs.Common.{◌≡◌, ℕ, zero, suc, ◌+◌, ◌-◌, Bool, true, false, not, ◌&&◌, ◌||◌, ◌==◌, nat_lt, nat_le, cond, List, [], ◌∷◌, length, map, slice_get, option_map, Option, Some, None, refl, sym, ap, ◌∙◌, if◌then◌else◌, replicate}
+use Rattle.std.proofs.Common.{◌≡◌, ℕ, zero, suc, Bool, true, false, not, ◌&&◌, ◌||◌, ◌==◌, nat_lt, nat_le, cond, List, [], ◌∷◌, length, map, option_map, Option, Some, None, refl, sym, ap, ◌∙◌, if◌then◌else◌, replicate}
 use Rattle.std.specs.Prelude.{is_none}
-use Rattle.std.specs.List.{find, position, position_or_len}
+use Rattle.std.specs.List.{find}
 use Rattle.tp4_conn.specs.declared.end_record.EndRecord.{EndRecord}
 use Rattle.tp4_conn.specs.declared.call.UserCall.{UserCall}
 use Rattle.tp4_conn.specs.declared.states.StateData.{StateData}
-use Rattle.tp4_conn.specs.declared.states.StateData.TheVariants.{CrWait, WaitBeforeClose, UserWait, AkWait, Opened, Closing, Frozen}
+use Rattle.tp4_conn.specs.declared.states.StateData.TheVariants.{CrWait}
 use Rattle.tp4_conn.specs.Calls.{call_refusal}
-use Rattle.tp4_conn.specs.End.{End, agreed_format, frozen_for}
-use Rattle.tp4_conn.specs.Table.{due}
-use Rattle.tp4_conn.specs.Wire.{end_on_wire, stage_on_wire}
+use Rattle.tp4_conn.specs.End.{End}
+use Rattle.tp4_conn.specs.Wire.{stage_on_wire}
 use Rattle.tp4_entity.specs.declared.refusal.ConnectRefusal.TheVariants as connects
-use Rattle.tp4_entity.specs.Entity.{Entity, end_at, there}
-use Rattle.tp4_entity.specs.References.{is_free, is_free_place, least_free, was_frozen, is_silent}
-use Rattle.tp4_entity.specs.Step.{connect_refusal, end_refusal, first_due, is_due, is_due_by, refused_by, user_refusal, restarted}
-use Rattle.tp4_entity.specs.Unit.{extended_from, extended_of, listed_if}
+use Rattle.tp4_entity.specs.Entity.{Entity, end_at}
+use Rattle.tp4_entity.specs.References.{is_free, is_free_place}
+use Rattle.tp4_entity.specs.Silence.{is_silent}
+use Rattle.tp4_entity.specs.Step.{connect_refusal, end_refusal, refused_by, user_refusal, restarted}
+use Rattle.tp4_entity.specs.Unit.{extended_of}
 use Rattle.tp4_entity.specs.Wire.{entity_on_wire}
+use Rattle.tp4_entity.proofs.Wires.{end_on, free_on, listed_on, map_length as length_on, on}
+pub use Rattle.tp4_entity.proofs.Wires.{first_due_on, least_on}
 use Rattle.tp4_world.proofs.Places.{some_same}
 use Rattle.tp4_world.specs.Wire.{placed_on_wire}
-use Rattle.tp4_world.specs.Run.{has_ended}
+use Rattle.tp4_world.specs.Ended.{has_ended}
 use Rattle.tp4_world.specs.World.{entity_at, is_of, latest, with_entity}
 use Rattle.tp4_world.specs.declared.place.EndAt.{EndAt}
 use Rattle.tp4_world.specs.declared.place.Placed.{Placed}
 
-abbrev on : Option End → Option End
-on place = option_map end_on_wire place
-
--- ---- ends
-
-due_on : (b : EndRecord) (stage : StateData) → due b (stage_on_wire stage) ≡ due b stage
-due_on b (CrWait w) = refl
-due_on b (WaitBeforeClose w) = refl
-due_on b (UserWait since) = refl
-due_on b (AkWait w) = refl
-due_on b (Opened o) = refl
-due_on b (Closing c) = refl
-due_on b (Frozen when) = refl
-
-frozen_on : (now ticks : ℕ) (stage : StateData) → was_frozen now ticks (stage_on_wire stage) ≡ was_frozen now ticks stage
-frozen_on now ticks (CrWait w) = refl
-frozen_on now ticks (WaitBeforeClose w) = refl
-frozen_on now ticks (UserWait since) = refl
-frozen_on now ticks (AkWait w) = refl
-frozen_on now ticks (Opened o) = refl
-frozen_on now ticks (Closing c) = refl
-frozen_on now ticks (Frozen when) = refl
-
 refusal_on : (b : EndRecord) (stage : StateData) (call : UserCall) → call_refusal b (stage_on_wire stage) call ≡ call_refusal b stage call
 refusal_on b (CrWait w) call = refl
-refusal_on b (WaitBeforeClose w) call = refl
-refusal_on b (UserWait since) call = refl
-refusal_on b (AkWait w) call = refl
-refusal_on b (Opened o) call = refl
-refusal_on b (Closing c) call = refl
-refusal_on b (Frozen when) call = refl
-
-free_on : (now : ℕ) (place : Option End) → is_free_place now (on place) ≡ is_free_place now place
-free_on now None = refl
-free_on now (Some end) = frozen_on now (frozen_for end.base.timers) end.stage
-
-is_due_on : (now : ℕ) (place : Option End) → is_due now (on place) ≡ is_due now place
-is_due_on now None = refl
-is_due_on now (Some end) = ap (is_due_by now) (due_on end.base end.stage)
-
--- ---- places
-
-first_on : (test : Option End → Bool) (places : List (Option End)) → ((place : Option End) → test (on place) ≡ test place) → position_or_len test (map on places) ≡ position_or_len test places
-first_on test [] same = refl
-first_on test (place ∷ places) same = λ i. cond (not (same place i)) (1 + first_on test places same i) 0
-
-length_on : (places : List (Option End)) → length (map on places) ≡ length places
-length_on [] = refl
-length_on (place ∷ places) = ap suc (length_on places)
-
-position_on : (test : Option End → Bool) (places : List (Option End)) → ((place : Option End) → test (on place) ≡ test place) → position test (map on places) ≡ position test places
-position_on test places same = λ i. cond (nat_lt (first_on test places same i) (length_on places i)) (Some (first_on test places same i)) None
-
-get_on : (places : List (Option End)) (k : ℕ) → there (slice_get (map on places) k) ≡ on (there (slice_get places k))
-get_on [] k = refl
-get_on (place ∷ places) zero = refl
-get_on (place ∷ places) (suc k) = get_on places k
-
-end_on : (e : Entity) (reference : ℕ) → end_at (entity_on_wire e) reference ≡ on (end_at e reference)
-end_on e reference = by_zero (reference == 0)
-  where
-    by_zero : (none : Bool) → (if none then None else there (slice_get (map on e.ends) (reference - 1))) ≡ on (if none then None else there (slice_get e.ends (reference - 1)))
-    by_zero true = refl
-    by_zero false = get_on e.ends (reference - 1)
-
-listed_on : (from : ℕ) (places : List (Option End)) → extended_from from (map on places) ≡ extended_from from places
-listed_on from [] = refl
-listed_on from (None ∷ places) = listed_on (from + 1) places
-listed_on from (Some end ∷ places) = ap (listed_if (agreed_format end.base.agreed) from) (listed_on (from + 1) places)
+refusal_on b stage call = refl
 
 -- ---- an entity
 
 pub formats_on : (e : Entity) → extended_of (entity_on_wire e) ≡ extended_of e
 formats_on e = listed_on 1 e.ends
-
-pub least_on : (now : ℕ) (e : Entity) → least_free now (entity_on_wire e) ≡ least_free now e
-least_on now e = ap (option_map (λ place. place + 1)) (position_on (is_free_place now) e.ends (free_on now))
-
-pub first_due_on : (now : ℕ) (e : Entity) → first_due now (entity_on_wire e) ≡ first_due now e
-first_due_on now e = ap (option_map (λ place. place + 1)) (position_on (is_due now) e.ends (is_due_on now))
 
 pub connect_refusal_on : (now : ℕ) (e : Entity) (octets : List ℕ) → connect_refusal now (entity_on_wire e) octets ≡ connect_refusal now e octets
 connect_refusal_on now e octets =

@@ -1,6 +1,6 @@
 -- A line has one list of events and leads to one state: each call of the carrier is asked alike, so it is answered alike and leads to one
 -- state; and what an entity does is a function of what it is asked, of its clock and of what came.
-use Rattle.std.proofs.Common.{◌≡◌, ℕ, ◌+◌, ◌<◌, ◌≤◌, ◌⊎◌, Bool, true, false, List, [], ◌∷◌, ◌++◌, Option, Some, None, refl, sym, ◌∙◌, ap, subst, arith, inl, inr}
+use Rattle.std.proofs.Common.{◌≡◌, ℕ, ◌+◌, ◌<◌, ◌⊎◌, Bool, true, false, List, [], ◌∷◌, ◌++◌, Option, Some, None, refl, sym, ◌∙◌, ap, subst, arith, inl, inr}
 use Rattle.osi_base.specs.declared.unit.Arrival.{Arrival}
 use Rattle.osi_base.specs.declared.unit.Injected.{Injected}
 use Rattle.osi_base.specs.declared.unit.Picked.{Picked}
@@ -8,7 +8,7 @@ use Rattle.osi_base.specs.declared.unit.Picked.TheVariants.{Taken as WasPicked}
 use Rattle.osi_base.specs.declared.unit.Up.{Up}
 use Rattle.osi_base.specs.declared.unit.Up.TheVariants.{Unit as Came, Note as Noted}
 use Rattle.osi_base.specs.declared.unit.Wish.{Wish}
-use Rattle.osi_base.specs.Link.{Link, IsLeastFresh, is_fresh}
+use Rattle.osi_base.specs.Link.{Link, IsLeastFresh}
 use Rattle.osi_base.specs.Calls.{Call, Offer, Choose, Inject, Tick}
 use Rattle.tpdu.specs.declared.tpdu.Format.{Format}
 use Rattle.tpdu.specs.declared.tpdu.Tpdu.{Tpdu}
@@ -32,10 +32,11 @@ use Rattle.script_lines.specs.declared.line.Line.{Line}
 use Rattle.script_lines.specs.declared.line.Line.TheVariants as lines
 use Rattle.law_carrier_answers.specs.Answers.{OneStep, OneGathering, Offering, asked_of}
 use Rattle.net_world.specs.Told.{picked_event, told}
-use Rattle.net_world.proofs.OneRun.{Same, one_pass, one_unit}
+use Rattle.net_world.proofs.OneRun.{Same, least_none, least_one, one_pass, one_unit}
 use Rattle.tp4_world.proofs.Places.{some_same}
 use Rattle.tp4_world.specs.Laws.{OneRun, OneStart}
-use Rattle.tp4_world.specs.Run.{Acts, Arrives, BeginsAt, Calls, CallsAt, CallsBy, CallsEnd, Connects, ConnectsBy, Delivers, HearsAll, HearsIf, Injects, IsRefused, NoneDue, NoneLeft, OneDue, OneMore, RunsLine, SendsRaw, SendsTpdu, SendsTpdus, Settles, Starts, Ticks, TicksAll, TicksEntity, TooMany, clock_of, has_ended, is_for, transport_address, transport_wish}
+use Rattle.tp4_world.specs.Run.{Acts, Arrives, BeginsAt, Calls, CallsAt, CallsBy, CallsEnd, Connects, ConnectsBy, Delivers, HearsAll, HearsIf, Injects, IsRefused, NoneDue, NoneLeft, OneDue, OneMore, RunsLine, SendsRaw, SendsTpdu, SendsTpdus, Settles, Starts, Ticks, TicksAll, TicksEntity, TooMany, clock_of, is_for, transport_address, transport_wish}
+use Rattle.tp4_world.specs.Ended.{has_ended}
 use Rattle.tp4_world.specs.Telling.{call_events, drop_events, ends_after, events_after, inject_event}
 use Rattle.tp4_world.specs.World.{World, end_numbered, entity_at, with_entity}
 use Rattle.tp4_world.specs.declared.place.EndAt.{EndAt}
@@ -49,28 +50,6 @@ OneWriting = (format : Format) (sum : Bool) (tpdu : Tpdu) (octets others : List 
 abbrev pub OneHearing : Type 0
 OneHearing = (wrap : ℕ → ℕ → ℕ) (now : ℕ) (old : Entity) (from octets : List ℕ) (one other : Acted)
     → TakesUnit wrap now old from octets one → TakesUnit wrap now old from octets other → one ≡ other
-
--- ---- the least pair that was not taken
-
--- one pair comes before another, or is that one
-least_same : (one other : ℕ × ℕ) → ((one.0 < other.0) ⊎ ((one.0 ≡ other.0) × (one.1 ≤ other.1))) → ((other.0 < one.0) ⊎ ((other.0 ≡ one.0) × (other.1 ≤ one.1))) → one ≡ other
-least_same one other up down =
-    let first : one.0 ≡ other.0 = elim up [ inl low ↦ elim down [ inl high ↦ absurd (omega (arith, low, high)) | inr same ↦ sym same.0 ] | inr same ↦ same.0 ] in
-    let second : one.1 ≡ other.1 = elim up [
-      | inl low ↦ absurd (omega (arith, low, first))
-      | inr same ↦ elim down [ inl high ↦ absurd (omega (arith, high, first)) | inr back ↦ omega (arith, same.1, back.1) ]
-    ] in
-    λ i. (first i, second i)
-
-least_one : {A : Type 0} (link : Link A) (one other : ℕ × ℕ) → IsLeastFresh link (Some one) → IsLeastFresh link (Some other) → one ≡ other
-least_one link one other a b = least_same one other (a.1 other.0 other.1 b.0) (b.1 one.0 one.1 a.0)
-
-least_none : {A : Type 0} (link : Link A) (pair : ℕ × ℕ) → IsLeastFresh link None → IsLeastFresh link (Some pair) → ⊥
-least_none link pair a b =
-    let none : is_fresh link pair.0 pair.1 ≡ false = a pair.0 pair.1 in
-    let some : is_fresh link pair.0 pair.1 ≡ true = b.0 in
-    let apart : false ≡ true = sym none ∙ some in
-    absurd cc
 
 module _ {C : Type 0} (link : C → Link (List ℕ)) (steps : C → Call (List ℕ) → C → Type 0) (once : OneStep steps) (gathers : OneGathering link steps) (written : OneWriting) where
   -- ---- what goes out
@@ -397,18 +376,7 @@ module _ {C : Type 0} (link : C → Link (List ℕ)) (steps : C → Call (List �
           events = a.2 ∙ sym b.2;
           state = a.3 ∙ ap (λ (e : Entity). record old { entities = with_entity old.entities system (restarted (clock_of link steps old) e) }) same ∙ sym b.3;
         }
-    one_line titles old (lines.Send system selector to called octets) made other new next a b = absurd a
-    one_line titles old (lines.Version version) made other new next a b = absurd a
-    one_line titles old (lines.Set key value) made other new next a b = absurd a
-    one_line titles old (lines.Lan name bound room) made other new next a b = absurd a
-    one_line titles old (lines.Es name title) made other new next a b = absurd a
-    one_line titles old (lines.Is name title) made other new next a b = absurd a
-    one_line titles old (lines.Port system lan snpa) made other new next a b = absurd a
-    one_line titles old (lines.Route system prefix hop lan) made other new next a b = absurd a
-    one_line titles old (lines.Path name kind systems) made other new next a b = absurd a
-    one_line titles old (lines.Tsap system selector) made other new next a b = absurd a
-    one_line titles old (lines.Relay system selector to called) made other new next a b = absurd a
-    one_line titles old lines.Start made other new next a b = absurd a
+    one_line titles old line made other new next a b = absurd a
 
   pub one_begin : (first : C) (placed : List Placed) (made other : List Event) (new next : World C) → Starts link steps first placed made new → Starts link steps first placed other next
       → Same made other new next

@@ -1,34 +1,11 @@
 -- The first member that passes a test.
-use Rattle.std.proofs.Common.{◌≡◌, ◌||◌, not, cond, nat_lt, get_or, ℕ, zero, suc, ◌+◌, ◌<◌, ◌≤◌, Bool, true, false, List, [], ◌∷◌, length, slice_get, take, Some, None, refl, sym, ◌∙◌, ap, subst, arith}
+use Rattle.std.proofs.Common.{◌≡◌, ◌||◌, cond, nat_lt, ℕ, zero, suc, ◌<◌, Bool, true, false, List, [], ◌∷◌, length, slice_get, take, Some, None, refl, sym, ◌∙◌, ap, subst, arith}
 use Rattle.std.specs.List.{find, list_any, position, position_or_len}
-use Rattle.std.proofs.lemmas.Bool.{ltb-false}
-use Rattle.std.proofs.lemmas.List.Quantifiers.{position-Some}
-use Rattle.std.proofs.lemmas.Option.{get_or_from_slice_get, slice_get_within}
+use Rattle.std.proofs.lemmas.Option.{slice_get_within}
+use Rattle.osi_base.proofs.Firsts.{none_there}
 
 pub some_same : {A : Type 0} (x y : A) → Some x ≡ Some y → x ≡ y
 some_same x y e = cc e
-
-none_before : {A : Type 0} (p : A → Bool) (xs : List A) (place : ℕ) (d : A) → place < length xs → ((k : ℕ) → k < place → p (get_or xs k d) ≡ false)
-    → list_any p (take place xs) ≡ false
-none_before p [] place d inside h = absurd (omega (arith, inside))
-none_before p (x ∷ xs) zero d inside h = refl
-none_before p (x ∷ xs) (suc place) d inside h =
-    ap (λ (b : Bool). b || list_any p (take place xs)) (h 0 (omega arith)) ∙ none_before p xs place d (omega (arith, inside)) (λ k low. h (suc k) (omega (arith, low)))
-
-past_none : {A : Type 0} (p : A → Bool) (xs : List A) → length xs ≤ position_or_len p xs → list_any p xs ≡ false
-past_none p [] past = refl
-past_none p (x ∷ xs) past = past_by (p x) refl past (past_none p xs)
-  where
-    past_by : (passes : Bool) → p x ≡ passes → length (x ∷ xs) ≤ cond (not passes) (1 + position_or_len p xs) 0 → (length xs ≤ position_or_len p xs → list_any p xs ≡ false) → (p x || list_any p xs) ≡ false
-    past_by true passes past rest = absurd (omega arith)
-    past_by false passes past rest = ap (λ (b : Bool). b || list_any p xs) passes ∙ rest (omega arith)
-
-none_there : {A : Type 0} (p : A → Bool) (xs : List A) → position p xs ≡ None → list_any p xs ≡ false
-none_there p xs is = none_at (nat_lt (position_or_len p xs) (length xs)) refl is
-  where
-    none_at : (within : Bool) → nat_lt (position_or_len p xs) (length xs) ≡ within → cond within (Some (position_or_len p xs)) None ≡ None → list_any p xs ≡ false
-    none_at true within is = absurd cc
-    none_at false within is = past_none p xs (ltb-false (position_or_len p xs) (length xs) within)
 
 -- a test that fails comes before a list in which none passes
 pub record NonePasses (first rest : Bool) : Type 0 where
@@ -47,18 +24,6 @@ found_none p (x ∷ xs) none =
 
 pub no_first : {A : Type 0} (p : A → Bool) (xs : List A) → position p xs ≡ None → find p xs ≡ None
 no_first p xs is = found_none p xs (none_there p xs is)
-
--- the member at the first place where a test passes
-pub record IsFirstAt {A : Type 0} (p : A → Bool) (xs : List A) (place : ℕ) (one : A) : Type 0 where
-  pub passes : p one ≡ true
-  pub before : list_any p (take place xs) ≡ false
-
-pub first_at : {A : Type 0} (p : A → Bool) (xs : List A) (place : ℕ) (one : A) → position p xs ≡ Some place → slice_get xs place ≡ Some one → IsFirstAt p xs place one
-first_at p xs place one h at =
-    let is = position-Some p xs place one h in record {
-      passes = subst (λ x. p x ≡ true) (get_or_from_slice_get xs place one one at) is.1;
-      before = none_before p xs place one is.0 is.2;
-    }
 
 pub found_at : {A : Type 0} (p : A → Bool) (xs : List A) (place : ℕ) (one : A) → slice_get xs place ≡ Some one → p one ≡ true → list_any p (take place xs) ≡ false → find p xs ≡ Some one
 found_at p [] place one at passes before = absurd cc

@@ -39,7 +39,8 @@ use Rattle.tp4_world.proofs.Lined.{injected, lines_alike, lines_back, not_taken}
 use Rattle.tp4_world.proofs.Standing.{AreApart, AreFine, AreStill, IsApart, IsFine, IsFromApart, Stands, act_stands, apart_on, changed_stands, delivery_carries, entity_fine, injection_carries, raw_carries, tick_carries, told_stands, with_fine}
 use Rattle.tp4_world.specs.First.{IsFirst, IsNew}
 use Rattle.tp4_world.specs.Laws.{ShowsSent, ShowsSentWhereHonest}
-use Rattle.tp4_world.specs.Run.{BeginsAt, Calls, CallsAt, CallsBy, CallsEnd, Connects, ConnectsBy, Delivers, HearsAll, HearsIf, Injects, IsRefused, NoneDue, NoneLeft, OneDue, OneMore, RunsLine, RunsLines, Settles, Starts, Ticks, TicksAll, TicksEntity, TooMany, clock_of, has_ended, is_for, transport_address}
+use Rattle.tp4_world.specs.Run.{BeginsAt, Calls, CallsAt, CallsBy, CallsEnd, Connects, ConnectsBy, Delivers, HearsAll, HearsIf, Injects, IsRefused, NoneDue, NoneLeft, OneDue, OneMore, RunsLine, RunsLines, Settles, Starts, Ticks, TicksAll, TicksEntity, TooMany, clock_of, is_for, transport_address}
+use Rattle.tp4_world.specs.Ended.{has_ended}
 use Rattle.tp4_world.specs.Telling.{call_events, connect_event, inject_event}
 use Rattle.tp4_world.specs.World.{World, end_numbered, entity_at}
 use Rattle.tp4_world.specs.declared.place.EndAt.{EndAt}
@@ -68,11 +69,8 @@ nothing_stands (suc count) = (refl, nothing_stands count)
 -- the line of a user's call is no event of a raw unit
 call_still : (number : ℕ) (call : UserCall) → AreStill (call_events number call)
 call_still number (asks.Accept options octets) = tt
-call_still number (asks.Refuse octets) = (record { other = tt; clock = λ now. refl }, tt)
-call_still number (asks.Normal octets) = (record { other = tt; clock = λ now. refl }, tt)
-call_still number (asks.Urgent octets) = (record { other = tt; clock = λ now. refl }, tt)
 call_still number (asks.Window credit) = tt
-call_still number (asks.Disconnect octets) = (record { other = tt; clock = λ now. refl }, tt)
+call_still number call = (record { other = tt; clock = λ now. refl }, tt)
 
 module _ (life : ℕ) (titles : List (List ℕ)) {C : Type 0} (link : C → Link (List ℕ)) (steps : C → Call (List ℕ) → C → Type 0)
     (law : (old : C) (call : Call (List ℕ)) (new : C) → steps old call new → Keeps (link old) call (link new)) where
@@ -249,18 +247,7 @@ module _ (life : ℕ) (titles : List (List ℕ)) {C : Type 0} (link : C → Link
           carries = told.carries;
           fine = with_fine life titles link steps law old.entities system (restarted (clock_of link steps old) step.0) h.fine (fine.0, new_ends _ (nothing_stands (length step.0.ends)));
         })
-    line_holds (lines.Send system selector to called octets) old new journal made honest h step = absurd step
-    line_holds (lines.Version version) old new journal made honest h step = absurd step
-    line_holds (lines.Set key value) old new journal made honest h step = absurd step
-    line_holds (lines.Lan name bound room) old new journal made honest h step = absurd step
-    line_holds (lines.Es name title) old new journal made honest h step = absurd step
-    line_holds (lines.Is name title) old new journal made honest h step = absurd step
-    line_holds (lines.Port system lan snpa) old new journal made honest h step = absurd step
-    line_holds (lines.Route system prefix hop lan) old new journal made honest h step = absurd step
-    line_holds (lines.Path name kind systems) old new journal made honest h step = absurd step
-    line_holds (lines.Tsap system selector) old new journal made honest h step = absurd step
-    line_holds (lines.Relay system selector to called) old new journal made honest h step = absurd step
-    line_holds lines.Start old new journal made honest h step = absurd step
+    line_holds line old new journal made honest h step = absurd step
 
     lines_hold : (script : List Line) (first last : World C) (journal rest : List Event) → (link last.carrier).honest ≡ true → Holds first journal
         → RunsLines link steps wrap titles first script rest last → Holds last (journal ++ rest)

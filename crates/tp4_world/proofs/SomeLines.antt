@@ -21,7 +21,7 @@ use Rattle.tp4_world.specs.Run.{Calls, RunsLine}
 use Rattle.tp4_world.specs.Total.{AreReady, CanRun, HasRun, HasStart, IsReady, IsReadyEntity, Serves}
 use Rattle.tp4_world.specs.World.{World, entity_at, with_entity}
 use Rattle.tp4_world.specs.declared.place.Placed.{Placed}
-use Rattle.tp4_world.proofs.SomeRun.{Made, taken, ends_stay}
+use Rattle.tp4_world.proofs.SomeRun.{Carrier, Ready, Runs, ends_stay, now_of, taken}
 use Rattle.tp4_world.proofs.SomeCalls.{calls, connect_runs}
 use Rattle.tp4_world.proofs.SomeHears.{delivered, inject_runs, settles}
 use Rattle.tp4_world.proofs.SomeTicks.{tick_runs}
@@ -32,28 +32,17 @@ use Rattle.law_tp4_proper.proofs.Heards.{restarting_in}
 use Rattle.tp4_world.proofs.Having.{found, with_any}
 use Rattle.std.specs.Prelude.{is_some}
 
-module _ {C : Type 0} (link : C → Link (List ℕ)) (steps : C → Call (List ℕ) → C → Type 0) (keeps : (old : C) (call : Call (List ℕ)) (new : C) → steps old call new → Keeps (link old) call (link new))
-    (is_address : List ℕ → Bool) (Stands : C → Type 0) (serves : Serves is_address link steps Stands) (wrap : ℕ → ℕ → ℕ) where
-  abbrev IsSo : World C → Type 0
-  IsSo world = IsReady is_address link Stands world
-
-  abbrev Makes : (List Event → World C → Type 0) → Type 0
-  Makes R = Made link steps keeps is_address Stands serves R
-
-  abbrev now_of : World C → ℕ
-  now_of world = (link world.carrier).clock
-
-  abbrev Runs : List (List ℕ) → World C → Line → Type 0
-  Runs titles old line = HasRun is_address link steps Stands wrap titles old line
+module _ {C : Type 0} (base : Carrier C) (wrap : ℕ → ℕ → ℕ) where
+  open base use {link, steps, is_address}
 
   -- ---- a raw unit
 
-  unit_runs : (titles : List (List ℕ)) (old : World C) (system to : ℕ) (sender receiver : List ℕ) (wish : Wish) (octets : List ℕ) → IsSo old
-      → slice_get titles system ≡ Some sender → slice_get titles to ≡ Some receiver → MayBeOffered is_address (raw_unit sender receiver octets) → Runs titles old (lines.Unit system to wish octets)
+  unit_runs : (titles : List (List ℕ)) (old : World C) (system to : ℕ) (sender receiver : List ℕ) (wish : Wish) (octets : List ℕ) → Ready base old
+      → slice_get titles system ≡ Some sender → slice_get titles to ≡ Some receiver → MayBeOffered is_address (raw_unit sender receiver octets) → Runs base wrap titles old (lines.Unit system to wish octets)
   unit_runs titles old system to sender receiver wish [] r from_is to_is may =
       record { made = events.No refusals.EmptyUnit ∷ []; new = old; runs = (sender, receiver, from_is, to_is, (old.carrier, (refl, refl), refl)); ready = r }
   unit_runs titles old system to sender receiver wish (octet ∷ octets) r from_is to_is may =
-      let t = taken link steps keeps is_address Stands serves old.carrier (raw_unit sender receiver (octet ∷ octets)) wish r.carrier may in
+      let t = taken base old.carrier (raw_unit sender receiver (octet ∷ octets)) wish r.carrier may in
       record {
         made = sent_event system (raw_address receiver) (octet ∷ octets) t.answer ∷ told t.ups;
         new = record old { carrier = t.new };
@@ -67,14 +56,14 @@ module _ {C : Type 0} (link : C → Link (List ℕ)) (steps : C → Call (List �
 
   -- ---- each line
 
-  restart_runs : (titles : List (List ℕ)) (old : World C) (system : ℕ) → IsSo old → is_some (entity_at old.entities system) ≡ true → Runs titles old (lines.Restart system)
+  restart_runs : (titles : List (List ℕ)) (old : World C) (system : ℕ) → Ready base old → is_some (entity_at old.entities system) ≡ true → Runs base wrap titles old (lines.Restart system)
   restart_runs titles old system r may =
       let e = found (entity_at old.entities system) may in
       let was = r.entities system e.0 e.1 in
-      let next : Entity = restarted (now_of old) e.0 in
-      let ready : IsReadyEntity is_address (now_of old) next = record {
-        rest = new_rests (now_of old) (length e.0.ends) next refl was.rest.proper.timers was.rest.proper.inactive;
-        octets = restarting_in is_address (now_of old) e.0 was.octets;
+      let next : Entity = restarted (now_of base old) e.0 in
+      let ready : IsReadyEntity is_address (now_of base old) next = record {
+        rest = new_rests (now_of base old) (length e.0.ends) next refl was.rest.proper.timers was.rest.proper.inactive;
+        octets = restarting_in is_address (now_of base old) e.0 was.octets;
       } in
       record {
         made = events.Restart system ∷ [];
@@ -83,7 +72,7 @@ module _ {C : Type 0} (link : C → Link (List ℕ)) (steps : C → Call (List �
         ready = record {
           carrier = r.carrier;
           entities = λ other x there. elim (with_any old.entities system other next x there) [
-            | inl here ↦ subst (λ (y : Entity). IsReadyEntity is_address (now_of old) y) (sym here.1) ready
+            | inl here ↦ subst (λ (y : Entity). IsReadyEntity is_address (now_of base old) y) (sym here.1) ready
             | inr before ↦ r.entities other x before
           ];
           ends = ends_stay old.entities system next old.ends r.ends;
@@ -91,39 +80,33 @@ module _ {C : Type 0} (link : C → Link (List ℕ)) (steps : C → Call (List �
       }
 
   call_runs : (titles : List (List ℕ)) (old : World C) (line : Line) (number : ℕ) (call : UserCall) → ((made : List Event) (new : World C) → Calls link steps wrap old number call made new → RunsLine link steps wrap titles old line made new)
-      → IsSo old → IsCall call → CallInOctets is_address call → Runs titles old line
-  call_runs titles old line number call is r c octets = let m = calls link steps keeps is_address Stands serves wrap old number call r c octets in record { made = m.made; new = m.new; runs = is m.made m.new m.runs; ready = m.ready }
+      → Ready base old → IsCall call → CallInOctets is_address call → Runs base wrap titles old line
+  call_runs titles old line number call is r c octets = let m = calls base wrap old number call r c octets in record { made = m.made; new = m.new; runs = is m.made m.new m.runs; ready = m.ready }
+
+module _ {C : Type 0} (link : C → Link (List ℕ)) (steps : C → Call (List ℕ) → C → Type 0) (keeps : (old : C) (call : Call (List ℕ)) (new : C) → steps old call new → Keeps (link old) call (link new))
+    (is_address : List ℕ → Bool) (Stands : C → Type 0) (serves : Serves is_address link steps Stands) (wrap : ℕ → ℕ → ℕ) where
+  abbrev base : Carrier C
+  base = record { link = link; steps = steps; keeps = keeps; is_address = is_address; Stands = Stands; serves = serves }
 
   pub some_line : (titles : List (List ℕ)) (old : World C) (line : Line) → IsReady is_address link Stands old → CanRun is_address titles link old line
       → HasRun is_address link steps Stands wrap titles old line
   some_line titles old lines.Nothing r may = record { made = []; new = old; runs = (refl, refl); ready = r }
-  some_line titles old (lines.Connect system selector to called options octets) r may = connect_runs link steps keeps is_address Stands serves wrap titles old system selector to called options octets r may
+  some_line titles old (lines.Connect system selector to called options octets) r may = connect_runs base wrap titles old system selector to called options octets r may
   some_line titles old (lines.Accept end options octets) r may =
-      call_runs titles old (lines.Accept end options octets) end (asks.Accept options octets) (λ made new runs. runs) r may.0 may.1
-  some_line titles old (lines.Refuse end octets) r may = call_runs titles old (lines.Refuse end octets) end (asks.Refuse octets) (λ made new runs. runs) r tt may
-  some_line titles old (lines.Disconnect end octets) r may = call_runs titles old (lines.Disconnect end octets) end (asks.Disconnect octets) (λ made new runs. runs) r tt may
-  some_line titles old (lines.Data end octets) r may = call_runs titles old (lines.Data end octets) end (asks.Normal octets) (λ made new runs. runs) r tt may
-  some_line titles old (lines.Expedite end octets) r may = call_runs titles old (lines.Expedite end octets) end (asks.Urgent octets) (λ made new runs. runs) r tt may
-  some_line titles old (lines.Window end credit) r may = call_runs titles old (lines.Window end credit) end (asks.Window credit) (λ made new runs. runs) r may tt
-  some_line titles old (lines.Unit system to wish octets) r may = unit_runs titles old system to may.0 may.1 wish octets r may.2 may.3 may.4
+      call_runs base wrap titles old (lines.Accept end options octets) end (asks.Accept options octets) (λ made new runs. runs) r may.0 may.1
+  some_line titles old (lines.Refuse end octets) r may = call_runs base wrap titles old (lines.Refuse end octets) end (asks.Refuse octets) (λ made new runs. runs) r tt may
+  some_line titles old (lines.Disconnect end octets) r may = call_runs base wrap titles old (lines.Disconnect end octets) end (asks.Disconnect octets) (λ made new runs. runs) r tt may
+  some_line titles old (lines.Data end octets) r may = call_runs base wrap titles old (lines.Data end octets) end (asks.Normal octets) (λ made new runs. runs) r tt may
+  some_line titles old (lines.Expedite end octets) r may = call_runs base wrap titles old (lines.Expedite end octets) end (asks.Urgent octets) (λ made new runs. runs) r tt may
+  some_line titles old (lines.Window end credit) r may = call_runs base wrap titles old (lines.Window end credit) end (asks.Window credit) (λ made new runs. runs) r may tt
+  some_line titles old (lines.Unit system to wish octets) r may = unit_runs base wrap titles old system to may.0 may.1 wish octets r may.2 may.3 may.4
   some_line titles old (lines.Deliver number system) r may =
-      let d = delivered link steps keeps is_address Stands serves wrap old number system r in record { made = d.made.made; new = d.made.new; runs = (d.answer, d.made.runs); ready = d.made.ready }
-  some_line titles old lines.Settle r may = let m = settles link steps keeps is_address Stands serves wrap 65536 0 old refl r in record { made = m.made; new = m.new; runs = m.runs; ready = m.ready }
-  some_line titles old (lines.Inject lan system octets) r may = inject_runs link steps keeps is_address Stands serves wrap titles old lan system octets r may
-  some_line titles old (lines.Restart system) r may = restart_runs titles old system r may
-  some_line titles old (lines.Send system selector to called octets) r may = absurd may
-  some_line titles old lines.Tick r may = tick_runs link steps keeps is_address Stands serves wrap titles old r may
-  some_line titles old (lines.Version version) r may = absurd may
-  some_line titles old (lines.Set key value) r may = absurd may
-  some_line titles old (lines.Lan name bound room) r may = absurd may
-  some_line titles old (lines.Es name title) r may = absurd may
-  some_line titles old (lines.Is name title) r may = absurd may
-  some_line titles old (lines.Port system lan snpa) r may = absurd may
-  some_line titles old (lines.Route system prefix hop lan) r may = absurd may
-  some_line titles old (lines.Path name kind systems) r may = absurd may
-  some_line titles old (lines.Tsap system selector) r may = absurd may
-  some_line titles old (lines.Relay system selector to called) r may = absurd may
-  some_line titles old lines.Start r may = absurd may
+      let d = delivered base wrap old number system r in record { made = d.made.made; new = d.made.new; runs = (d.answer, d.made.runs); ready = d.made.ready }
+  some_line titles old lines.Settle r may = let m = settles base wrap 65536 0 old refl r in record { made = m.made; new = m.new; runs = m.runs; ready = m.ready }
+  some_line titles old (lines.Inject lan system octets) r may = inject_runs base wrap titles old lan system octets r may
+  some_line titles old (lines.Restart system) r may = restart_runs base wrap titles old system r may
+  some_line titles old lines.Tick r may = tick_runs base wrap titles old r may
+  some_line titles old line r may = absurd may
 
   pub some_begin : (first : C) (placed : List Placed) → Stands first → AreReady is_address (link first).clock placed → HasStart is_address link steps Stands first placed
   some_begin first placed stands ready =

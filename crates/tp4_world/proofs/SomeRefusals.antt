@@ -6,7 +6,7 @@ use Rattle.script_journal.specs.declared.cause.Refused.{Refused}
 use Rattle.script_journal.specs.declared.cause.Refused.TheVariants as refusals
 use Rattle.tp4_flow.specs.declared.rules.SubmitRefusal.{SubmitRefusal}
 use Rattle.tp4_flow.specs.declared.rules.SubmitRefusal.TheVariants as submits
-use Rattle.tp4_sending.specs.FlowSender.{FlowSender, refusal, urgent_refusal}
+use Rattle.tp4_sending.specs.SendingHalf.{FlowSender, refusal, urgent_refusal}
 use Rattle.tp4_conn.specs.Calls.{call_refusal, expedited_refusal, is_listed, listed_refusal, normal_refusal, sending_of, too_long, unit_refusal, urgent_unit_refusal}
 use Rattle.tp4_conn.specs.End.{End}
 use Rattle.tp4_conn.specs.Opened.{is_expedited}

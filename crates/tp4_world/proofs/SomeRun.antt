@@ -7,13 +7,13 @@ use Rattle.osi_base.specs.declared.unit.Unit.{Unit as CarriedUnit}
 use Rattle.osi_base.specs.declared.unit.Up.{Up}
 use Rattle.osi_base.specs.declared.unit.Wish.{Wish}
 use Rattle.osi_base.specs.declared.unit.Offered.{Offered}
-use Rattle.osi_base.specs.declared.unit.Picked.{Picked}
-use Rattle.osi_base.specs.declared.unit.Injected.{Injected}
 use Rattle.osi_base.specs.Link.{Link}
-use Rattle.osi_base.specs.Calls.{Call, Choose, Inject, Keeps, NextUp, Offer, Tick}
-use Rattle.law_carrier_answers.specs.Answers.{CanBeAsked, Choosing, Injecting, MayBeOffered, Offering, Ticking, asked_of}
+use Rattle.osi_base.specs.Calls.{Call, Keeps, Offer}
+use Rattle.law_carrier_answers.specs.Answers.{CanBeAsked, MayBeOffered, Offering, asked_of}
+use Rattle.law_carrier_answers.proofs.Answered.{answered_by}
 use Rattle.law_carrier_answers.proofs.Gatherings.{some_gathering}
 use Rattle.script_journal.specs.declared.event.Event.{Event}
+use Rattle.script_lines.specs.declared.line.Line.{Line}
 use Rattle.net_world.specs.Run.{Passes}
 use Rattle.net_world.specs.Told.{told}
 use Rattle.tp4_flow.specs.declared.step.EndEvent.{EndEvent}
@@ -28,62 +28,11 @@ use Rattle.law_tp4_proper.proofs.Octets.{all_both}
 use Rattle.law_tp4_proper.proofs.Writings.{some_writing}
 use Rattle.tp4_world.specs.Run.{Acts, SendsTpdu, SendsTpdus, transport_wish}
 use Rattle.tp4_world.specs.Telling.{drop_events, ends_after, ends_with, events_after}
-use Rattle.tp4_world.specs.Total.{ComesInOctets, HasEntity, IsReady, IsReadyEntity, Serves}
+use Rattle.tp4_world.specs.Total.{ComesInOctets, HasEntity, HasRun, IsReady, IsReadyEntity, Serves}
 use Rattle.tp4_world.specs.World.{World, entity_at, with_entity}
 use Rattle.tp4_world.specs.declared.place.EndAt.{EndAt}
 use Rattle.tp4_world.specs.declared.place.Placed.{Placed}
 use Rattle.tp4_world.proofs.Having.{with_any, with_some}
-
--- ---- what a carrier answers
-
-record IsOffered {C : Type 0} (steps : C → Call (List ℕ) → C → Type 0) (old : C) (unit : CarriedUnit (List ℕ)) (wish : Wish) (new : C) : Type 0 where
-  answer : Offered
-  steps_to : steps old (Offer unit wish answer) new
-
-offer_by : {C : Type 0} (steps : C → Call (List ℕ) → C → Type 0) (old : C) (unit : CarriedUnit (List ℕ)) (wish : Wish) (call : Call (List ℕ)) (new : C)
-    → asked_of call ≡ Offering unit wish → steps old call new → IsOffered steps old unit wish new
-offer_by steps old unit wish (Offer other likewise answer) new e s =
-    let same : Offer other likewise answer ≡ Offer unit wish answer = cc in
-    record { answer = answer; steps_to = subst (λ (c : Call (List ℕ)). steps old c new) same s }
-offer_by steps old unit wish (Choose pick system answer) new e s = absurd cc
-offer_by steps old unit wish (Inject lan system octets answer) new e s = absurd cc
-offer_by steps old unit wish (NextUp answer) new e s = absurd cc
-offer_by steps old unit wish Tick new e s = absurd cc
-
-pub record IsChosen {C : Type 0} (steps : C → Call (List ℕ) → C → Type 0) (old : C) (pick system : ℕ) (new : C) : Type 0 where
-  pub answer : Picked
-  pub steps_to : steps old (Choose pick system answer) new
-
-pub choose_by : {C : Type 0} (steps : C → Call (List ℕ) → C → Type 0) (old : C) (pick system : ℕ) (call : Call (List ℕ)) (new : C)
-    → asked_of call ≡ Choosing pick system → steps old call new → IsChosen steps old pick system new
-choose_by steps old pick system (Offer unit wish answer) new e s = absurd cc
-choose_by steps old pick system (Choose other at answer) new e s =
-    let same : Choose other at answer ≡ Choose pick system answer = cc in
-    record { answer = answer; steps_to = subst (λ (c : Call (List ℕ)). steps old c new) same s }
-choose_by steps old pick system (Inject lan at octets answer) new e s = absurd cc
-choose_by steps old pick system (NextUp answer) new e s = absurd cc
-choose_by steps old pick system Tick new e s = absurd cc
-
-pub record IsInjected {C : Type 0} (steps : C → Call (List ℕ) → C → Type 0) (old : C) (lan system : ℕ) (octets : List ℕ) (new : C) : Type 0 where
-  pub answer : Injected
-  pub steps_to : steps old (Inject lan system octets answer) new
-
-pub inject_by : {C : Type 0} (steps : C → Call (List ℕ) → C → Type 0) (old : C) (lan system : ℕ) (octets : List ℕ) (call : Call (List ℕ)) (new : C)
-    → asked_of call ≡ Injecting lan system octets → steps old call new → IsInjected steps old lan system octets new
-inject_by steps old lan system octets (Offer unit wish answer) new e s = absurd cc
-inject_by steps old lan system octets (Choose pick at answer) new e s = absurd cc
-inject_by steps old lan system octets (Inject other at others answer) new e s =
-    let same : Inject other at others answer ≡ Inject lan system octets answer = cc in
-    record { answer = answer; steps_to = subst (λ (c : Call (List ℕ)). steps old c new) same s }
-inject_by steps old lan system octets (NextUp answer) new e s = absurd cc
-inject_by steps old lan system octets Tick new e s = absurd cc
-
-pub tick_by : {C : Type 0} (steps : C → Call (List ℕ) → C → Type 0) (old : C) (call : Call (List ℕ)) (new : C) → asked_of call ≡ Ticking → steps old call new → steps old Tick new
-tick_by steps old (Offer unit wish answer) new e s = absurd cc
-tick_by steps old (Choose pick system answer) new e s = absurd cc
-tick_by steps old (Inject lan system octets answer) new e s = absurd cc
-tick_by steps old (NextUp answer) new e s = absurd cc
-tick_by steps old Tick new e s = s
 
 -- ---- what entities do
 
@@ -91,10 +40,7 @@ tick_by steps old Tick new e s = s
 ends_more : (placed : List Placed) (ends : List EndAt) (system : ℕ) (telling : EndEvent) (what : What) → AllByRecursion (HasEntity placed) ends → is_some (entity_at placed system) ≡ true
     → AllByRecursion (HasEntity placed) (ends_with ends system telling what)
 ends_more placed ends system telling (whats.Incoming from partner calling called options octets) h some = all_both (HasEntity placed) ends (record { system = system; reference = telling.reference } ∷ []) h (some, tt)
-ends_more placed ends system telling (whats.End what) h some = h
-ends_more placed ends system telling (whats.BadTpdu cause place) h some = h
-ends_more placed ends system telling (whats.Unknown kind) h some = h
-ends_more placed ends system telling whats.Silent h some = h
+ends_more placed ends system telling what h some = h
 
 pub ends_all : (placed : List Placed) (ends : List EndAt) (system : ℕ) (all : List EndEvent) → AllByRecursion (HasEntity placed) ends → is_some (entity_at placed system) ≡ true
     → AllByRecursion (HasEntity placed) (ends_after ends system all)
@@ -105,8 +51,35 @@ pub ends_stay : (placed : List Placed) (system : ℕ) (e : Entity) (ends : List 
 ends_stay placed system e [] h = tt
 ends_stay placed system e (end ∷ ends) h = (with_some placed system end.system e h.0, ends_stay placed system e ends h.1)
 
-module _ {C : Type 0} (link : C → Link (List ℕ)) (steps : C → Call (List ℕ) → C → Type 0) (keeps : (old : C) (call : Call (List ℕ)) (new : C) → steps old call new → Keeps (link old) call (link new))
-    (is_address : List ℕ → Bool) (Stands : C → Type 0) (serves : Serves is_address link steps Stands) where
+-- a carrier that serves
+pub record Carrier (C : Type 0) : Type 1 where
+  pub link : C → Link (List ℕ)
+  pub steps : C → Call (List ℕ) → C → Type 0
+  pub keeps : (old : C) (call : Call (List ℕ)) (new : C) → steps old call new → Keeps (link old) call (link new)
+  pub is_address : List ℕ → Bool
+  pub Stands : C → Type 0
+  pub serves : Serves is_address link steps Stands
+
+abbrev pub now_of : {C : Type 0} → Carrier C → World C → ℕ
+now_of base world = (base.link world.carrier).clock
+
+-- a network over it at rest
+abbrev pub Ready : {C : Type 0} → Carrier C → World C → Type 0
+Ready base world = IsReady base.is_address base.link base.Stands world
+
+-- what has events, and leads to such a network
+pub record Made {C : Type 0} (base : Carrier C) (R : List Event → World C → Type 0) : Type 0 where
+  pub made : List Event
+  pub new : World C
+  pub runs : R made new
+  pub ready : Ready base new
+
+abbrev pub Runs : {C : Type 0} → Carrier C → (ℕ → ℕ → ℕ) → List (List ℕ) → World C → Line → Type 0
+Runs base wrap titles old line = HasRun base.is_address base.link base.steps base.Stands wrap titles old line
+
+module _ {C : Type 0} (base : Carrier C) where
+  open base use {link, steps, keeps, is_address, Stands, serves}
+
   -- ---- a call, and what comes up
 
   pub record Passed (old : C) (call : Call (List ℕ)) (called : C) : Type 0 where
@@ -140,9 +113,9 @@ module _ {C : Type 0} (link : C → Link (List ℕ)) (steps : C → Call (List �
   pub taken : (old : C) (unit : CarriedUnit (List ℕ)) (wish : Wish) → Stands old → MayBeOffered is_address unit → Taken old unit wish
   taken old unit wish stands may =
       let a = serves.answers.answered old (Offering unit wish) stands may in
-      let done = offer_by steps old unit wish a.call a.new a.is_asked a.steps_to in
-      let p = passed old (Offer unit wish done.answer) a.new stands may done.steps_to in
-      record { answer = done.answer; ups = p.ups; new = p.new; passes = p.passes; stands = p.stands; clock = p.clock ∙ (keeps old (Offer unit wish done.answer) a.new done.steps_to).clock }
+      let done = answered_by steps old (Offering unit wish) a in
+      let p = passed old (Offer unit wish done.0) a.new stands may done.1 in
+      record { answer = done.0; ups = p.ups; new = p.new; passes = p.passes; stands = p.stands; clock = p.clock ∙ (keeps old (Offer unit wish done.0) a.new done.1).clock }
 
   -- ---- TPDUs
 
@@ -211,22 +184,9 @@ module _ {C : Type 0} (link : C → Link (List ℕ)) (steps : C → Call (List �
             (with_some old.entities system system acted.entity some);
       }
 
-  abbrev pub Ready : World C → Type 0
-  Ready world = IsReady is_address link Stands world
-
-  -- what has events, and leads to such a network
-  pub record Made (R : List Event → World C → Type 0) : Type 0 where
-    pub made : List Event
-    pub new : World C
-    pub runs : R made new
-    pub ready : Ready new
-
-  abbrev pub now_of : World C → ℕ
-  now_of world = (link world.carrier).clock
-
   -- an entity at rest does something, and is at rest afterwards
-  pub acting : (old : World C) (system : ℕ) (e : Entity) (acted : Acted) → Ready old → entity_at old.entities system ≡ Some e
-      → IsProperStep (now_of old) acted → StepInOctets is_address acted → Made (Acts link steps old system e.own acted)
+  pub acting : (old : World C) (system : ℕ) (e : Entity) (acted : Acted) → Ready base old → entity_at old.entities system ≡ Some e
+      → IsProperStep (now_of base old) acted → StepInOctets is_address acted → Made base (Acts link steps old system e.own acted)
   acting old system e acted r is step octets =
       let address : is_address e.own ≡ true = (r.entities system e is).octets.own in
       let a = acts_so old system e.own acted r.carrier r.ends (ap (λ (o : Option Entity). is_some o) is) address step.tpdus octets.tpdus in
@@ -237,7 +197,7 @@ module _ {C : Type 0} (link : C → Link (List ℕ)) (steps : C → Call (List �
         ready = record {
           carrier = a.stands;
           entities = λ other x there. elim (with_any old.entities system other acted.entity x (subst (λ (l : List Placed). entity_at l other ≡ Some x) a.entities there)) [
-            | inl new ↦ subst (λ (y : Entity). IsReadyEntity is_address (now_of a.new) y) (sym new.1)
+            | inl new ↦ subst (λ (y : Entity). IsReadyEntity is_address (now_of base a.new) y) (sym new.1)
                 (subst (λ (now : ℕ). IsReadyEntity is_address now acted.entity) (sym a.clock) (record { rest = step.rest; octets = octets.entity }))
             | inr stays ↦ subst (λ (now : ℕ). IsReadyEntity is_address now x) (sym a.clock) (r.entities other x stays)
           ];

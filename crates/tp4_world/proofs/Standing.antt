@@ -76,10 +76,7 @@ drop_still system (Dropped cause) = (record { other = tt; clock = λ now. refl }
 
 event_still : (system : ℕ) (own : List ℕ) (number reference : ℕ) (what : What) → IsStill (event_for system own number reference what)
 event_still system own number reference (whats.Incoming from partner calling called options octets) = record { other = tt; clock = λ now. refl }
-event_still system own number reference (whats.End what) = record { other = tt; clock = λ now. refl }
-event_still system own number reference (whats.BadTpdu cause place) = record { other = tt; clock = λ now. refl }
-event_still system own number reference (whats.Unknown kind) = record { other = tt; clock = λ now. refl }
-event_still system own number reference whats.Silent = record { other = tt; clock = λ now. refl }
+event_still system own number reference what = record { other = tt; clock = λ now. refl }
 
 -- what ends tell is still
 events_still : (told : List EndEvent) (ends : List EndAt) (system : ℕ) (own : List ℕ) → AreStill (events_after ends system own told)

@@ -23,7 +23,8 @@ use Rattle.tp4_conn.specs.Wire.{end_on_wire}
 use Rattle.tp4_entity.specs.declared.refusal.ConnectRefusal.{ConnectRefusal}
 use Rattle.tp4_entity.specs.declared.refusal.EntityRefusal.{EntityRefusal}
 use Rattle.tp4_entity.specs.Entity.{Acted, Entity, at}
-use Rattle.tp4_entity.specs.References.{least_free, is_silent}
+use Rattle.tp4_entity.specs.References.{least_free}
+use Rattle.tp4_entity.specs.Silence.{is_silent}
 use Rattle.tp4_entity.specs.Step.{calling, connect_refusal, connecting, first_due, ticking, user_refusal, restarted}
 use Rattle.tp4_entity.specs.Unit.{EndsWith, HearsUnit, Separates, all_met, ignored, TakesBy, TakesUnit}
 use Rattle.tp4_entity.specs.Wire.{acted_on_wire, entity_on_wire}
@@ -34,7 +35,8 @@ use Rattle.tp4_world.specs.Called.{WorldCall, Did, DidAll}
 use Rattle.tp4_world.specs.Called as asked
 use Rattle.tp4_world.specs.First.{HasNoEnd}
 use Rattle.tp4_world.specs.Wire.{placed_on_wire, world_on_wire}
-use Rattle.tp4_world.specs.Run.{Acts, Arrives, BeginsAt, Calls, CallsAt, CallsBy, CallsEnd, Connects, ConnectsBy, Delivers, Hears, HearsAll, HearsIf, IsRefused, NoneDue, NoneLeft, OneDue, OneMore, Restarts, RunsLine, RunsLines, Settles, Ticks, TicksAll, TicksEntity, TooMany, clock_of, has_ended, is_for}
+use Rattle.tp4_world.specs.Run.{Acts, Arrives, BeginsAt, Calls, CallsAt, CallsBy, CallsEnd, Connects, ConnectsBy, Delivers, Hears, HearsAll, HearsIf, IsRefused, NoneDue, NoneLeft, OneDue, OneMore, Restarts, RunsLine, RunsLines, Settles, Ticks, TicksAll, TicksEntity, TooMany, clock_of, is_for}
+use Rattle.tp4_world.specs.Ended.{has_ended}
 use Rattle.tp4_world.specs.Telling.{ends_after, inject_event}
 use Rattle.tp4_world.specs.World.{World, end_numbered, entity_at, with_entity}
 use Rattle.tp4_world.specs.declared.place.EndAt.{EndAt}
@@ -343,18 +345,7 @@ module _ {C : Type 0} (link : C → Link (List ℕ)) (steps : C → Call (List �
       let done = arrived_above old (Inject lan system octets a.0) (inject_event system a.0) made new a.1 in
       record { up = done.up; does = (a.0, done.does); is = done.is }
   line_above titles old (lines.Restart system) made new a = restarted_above old system made new a
-  line_above titles old (lines.Send system selector to called octets) made new a = absurd a
-  line_above titles old (lines.Version version) made new a = absurd a
-  line_above titles old (lines.Set key value) made new a = absurd a
-  line_above titles old (lines.Lan name bound room) made new a = absurd a
-  line_above titles old (lines.Es name title) made new a = absurd a
-  line_above titles old (lines.Is name title) made new a = absurd a
-  line_above titles old (lines.Port system lan snpa) made new a = absurd a
-  line_above titles old (lines.Route system prefix hop lan) made new a = absurd a
-  line_above titles old (lines.Path name kind systems) made new a = absurd a
-  line_above titles old (lines.Tsap system selector) made new a = absurd a
-  line_above titles old (lines.Relay system selector to called) made new a = absurd a
-  line_above titles old lines.Start made new a = absurd a
+  line_above titles old line made new a = absurd a
 
   lines_above : (titles : List (List ℕ)) (script : List Line) (old : World C) (journal : List Event) (last : World C) → RunsLines link steps wire titles (world_on_wire old) script journal last
       → Above (λ up. RunsLines link steps whole titles old script journal up) last

@@ -1,5 +1,6 @@
 pub mod Asked
 pub mod Called
+pub mod Ended
 pub mod First
 pub mod Laws
 pub mod Run

@@ -1,7 +1,7 @@
 -- What each line does to a network with its transport entities, over any carrier of units, and the events that it makes (X.214, service
 -- primitives; X.224, class 4 procedures). A line's own event comes first, then what the network hands up, in order, and then what each
 -- end tells and sends.
-use Rattle.std.specs.Prelude.{◌≡◌, ℕ, ◌+◌, ◌<◌, ◌==◌, Bool, true, false, ◌&&◌, ◌||◌, not, nat_eq, List, [], ◌∷◌, ◌++◌, length, slice_get, is_none, Option, Some, None}
+use Rattle.std.specs.Prelude.{◌≡◌, ℕ, ◌+◌, ◌<◌, ◌==◌, Bool, true, false, ◌&&◌, nat_eq, List, [], ◌∷◌, ◌++◌, length, slice_get, Option, Some, None}
 use Rattle.std.specs.Cmp.Lexicographic.{pointwise}
 use Rattle.nsap.specs.Address.{selector_of, system_part}
 use Rattle.osi_base.specs.declared.unit.Arrival.{Arrival}
@@ -22,8 +22,8 @@ use Rattle.tp4_conn.specs.declared.call.UserCall.{UserCall}
 use Rattle.tp4_conn.specs.declared.call.UserCall.TheVariants as asks
 use Rattle.tp4_entity.specs.declared.refusal.ConnectRefusal.{ConnectRefusal}
 use Rattle.tp4_entity.specs.declared.refusal.EntityRefusal.{EntityRefusal}
-use Rattle.tp4_entity.specs.Entity.{Entity, Acted, end_at}
-use Rattle.tp4_entity.specs.References.{is_free, least_free}
+use Rattle.tp4_entity.specs.Entity.{Entity, Acted}
+use Rattle.tp4_entity.specs.References.{least_free}
 use Rattle.tp4_entity.specs.Step.{calling, connect_refusal, connecting, first_due, restarted, ticking, user_refusal}
 use Rattle.tp4_entity.specs.Unit.{TakesUnit}
 use Rattle.script_journal.specs.declared.cause.Refused.{Refused}
@@ -36,9 +36,10 @@ use Rattle.script_lines.specs.declared.line.Line.TheVariants as lines
 use Rattle.net_world.specs.Run.{Passes, SendsUnit}
 use Rattle.net_world.specs.Told.{picked_event, told}
 use Rattle.tp4_world.specs.Telling.{call_events, drop_events, ends_after, events_after, inject_event, told_connect, told_refusal, connect_event}
-use Rattle.tp4_world.specs.World.{World, end_numbered, entity_at, latest, with_entity}
+use Rattle.tp4_world.specs.World.{World, end_numbered, entity_at, with_entity}
 use Rattle.tp4_world.specs.declared.place.EndAt.{EndAt}
 use Rattle.tp4_world.specs.declared.place.Placed.{Placed}
+use Rattle.tp4_world.specs.Ended.{has_ended}
 
 -- a unit of transport may be cut, and asks for nothing else
 abbrev pub transport_wish : Wish
@@ -47,12 +48,6 @@ transport_wish = record { cut = true; report = false; trace = false; path = 0 }
 -- the address of a system's transport users
 abbrev pub transport_address : List ℕ → List ℕ
 transport_address title = system_part title ++ 1 ∷ []
-
--- an end whose reference has been free since it was made, or whose system began again since: a later end has the reference, none stands there, or
--- it is free now
-abbrev pub has_ended : ℕ → List EndAt → ℕ → EndAt → Entity → Bool
-has_ended now ends number end entity =
-    not (latest ends end.system end.reference == number) || (is_none (end_at entity end.reference) || is_free now entity end.reference)
 
 module _ {C : Type 0} (link : C → Link (List ℕ)) (steps : C → Call (List ℕ) → C → Type 0) where
   -- a TPDU goes out in a unit of its own; what is told of the unit and its frames comes of it

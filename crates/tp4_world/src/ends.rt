@@ -1,14 +1,17 @@
 //! The ends that were made, by their numbers, and the latest one of each reference (X.224, frozen references).
 
-ghost use Rattle.std.specs.Prelude.{◌≡◌, ◌+◌, ◌∷◌, [], ◌++◌, length, IfOk, OnErr};
+ghost use Rattle.std.specs.Prelude.{◌≡◌, ◌+◌, ◌∷◌, [], ◌++◌, length, IfOk, OnErr, ◌≤◌};
 ghost use Rattle.tp4_world.specs.World.{end_numbered, latest};
 ghost use Rattle.tp4_world.specs.steps.Parts.{key_of};
+ghost use Rattle.tp4_world.specs.Ended.{has_ended};
 
 use crate::EndAt;
-use osi_base::NoMemory;
+use osi_base::{NoMemory, Tick};
 use std::alloc::Global;
 use std::collections::HashMap;
 use std::marker::Model;
+use tp4_conn::Uncounted;
+use tp4_entity::TpEntity;
 
 /// The ends that were made, in the order of their numbers.
 #[derive(Drop)]
@@ -99,4 +102,21 @@ fn key_of(system: u8, reference: u16) -> u32
     ensures { result ≡ key_of system reference }
 {
     u32::from(system) * 65_536 + u32::from(reference)
+}
+
+/// Whether the reference of an end has been free since the end was made, or its system began again since.
+#[tactic(auto, using(tp4_entity::proofs::Restarts::no_state))]
+pub fn has_ended(
+    ends: &Ends,
+    now: Tick,
+    number: u32,
+    end: EndAt,
+    entity: &TpEntity<Uncounted>,
+) -> bool
+    requires { entity.now.clock ≤ now }
+    ensures { result ≡ has_ended now ends.now number end entity.now }
+{
+    let is_latest = ends.latest(end.system, end.reference) == number;
+    let is_gone = entity.state_of(end.reference, &mut Uncounted).is_none();
+    !is_latest || is_gone || entity.is_free(now, end.reference, &mut Uncounted)
 }

@@ -9,6 +9,7 @@ mod laws;
 mod place;
 mod refusals;
 mod sending;
+mod settling;
 mod ticking;
 mod transport;
 mod user_calls;

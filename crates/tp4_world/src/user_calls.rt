@@ -8,12 +8,12 @@ ghost use Rattle.script_journal.specs.declared.event.Event.TheVariants.{No, Rest
 ghost use Rattle.script_journal.specs.declared.cause.Refused.{Refused as Cause};
 ghost use Rattle.tp4_entity.specs.Entity.{Entity};
 ghost use Rattle.tp4_entity.specs.Step.{restarted};
-ghost use Rattle.tp4_world.specs.Run.{Calls, Connects, has_ended};
+ghost use Rattle.tp4_world.specs.Run.{Calls, Connects};
 ghost use Rattle.tp4_world.specs.World.{entity_at, with_entity};
 ghost use Rattle.tp4_world.specs.steps.Parts.{AreBehind, AreHoused, AreLaterAll, world_of};
 
 use crate::EndAt;
-use crate::ends::Ends;
+use crate::ends::has_ended;
 use crate::events::{call_event, connect_line, tell_some};
 use crate::refusals::{told_connect, told_refusal};
 use crate::sending::follow;
@@ -22,7 +22,6 @@ use nsap::Nsap;
 use osi_base::{Carrier, NoMemory, Tick};
 use script_journal::{Boxed, Event, Refused, Request};
 use tp4_conn::{ConnectRequest, Uncounted, UserCall};
-use tp4_entity::TpEntity;
 
 /// A user of a system asks for a connection.
 pub fn begin<C: Carrier<Addr = Nsap>>(
@@ -148,17 +147,6 @@ pub fn ask<C: Carrier<Addr = Nsap>>(
             Ok(())
         }
     }
-}
-
-/// Whether the reference of an end has been free since the end was made, or its system began again since.
-#[tactic(auto, using(tp4_entity::proofs::Restarts::no_state))]
-fn has_ended(ends: &Ends, now: Tick, number: u32, end: EndAt, entity: &TpEntity<Uncounted>) -> bool
-    requires { entity.now.clock ≤ now }
-    ensures { result ≡ has_ended now ends.now number end entity.now }
-{
-    let is_latest = ends.latest(end.system, end.reference) == number;
-    let is_gone = entity.state_of(end.reference, &mut Uncounted).is_none();
-    !is_latest || is_gone || entity.is_free(now, end.reference, &mut Uncounted)
 }
 
 /// Tells a refusal; want of memory is none.

@@ -14,11 +14,12 @@ use Rattle.tpdu.specs.steps.Reading.{judged, parameter_by, parameter_at, checked
 use Rattle.tpdu.proofs.Parts.{some_left}
 use Rattle.tpdu.proofs.Splits.{parameters-front, parameters-none}
 
-option_or-assoc : {T : Type 0} (a b c : Option T) → option_or (option_or a b) c ≡ option_or a (option_or b c)
+-- the first that is there
+pub option_or-assoc : {T : Type 0} (a b c : Option T) → option_or (option_or a b) c ≡ option_or a (option_or b c)
 option_or-assoc None b c = refl
 option_or-assoc (Some x) b c = refl
 
-option_or-none : {T : Type 0} (a : Option T) → option_or a None ≡ a
+pub option_or-none : {T : Type 0} (a : Option T) → option_or a None ≡ a
 option_or-none None = refl
 option_or-none (Some x) = refl
 

@@ -7,7 +7,6 @@ use Rattle.osi_base.specs.Fletcher.{is_sealed}
 use Rattle.pdu_parts.specs.FirstFault.{must, first_failing}
 use Rattle.pdu_parts.specs.Parameter.{parameters_in, left_in}
 use Rattle.pdu_parts.specs.steps.Reading.{◌>>=◌, unless}
-use Rattle.tpdu.specs.declared.fault.TpduCause.{TpduCause}
 use Rattle.tpdu.specs.declared.fault.TpduCause.TheVariants.{Short, Length, Fixed, Class, Checksum, Body}
 use Rattle.tpdu.specs.declared.fault.TpduFault.{TpduFault}
 use Rattle.tpdu.specs.declared.kind.Kind.{Kind}
@@ -17,22 +16,24 @@ use Rattle.tpdu.specs.Values.{value_of}
 use Rattle.tpdu.specs.Faults.{indicator, header, whole, body_of, format_at, fault_at, parameter_steps, steps_of, first_fault}
 use Rattle.tpdu.specs.steps.Reading.{head_for, head_by, head_at, Sections, sections_at, close_at, checked, Found, parts_of, read_at}
 
-abbrev pub fault_of : {A : Type 0} → Result A TpduFault → Option TpduFault
+abbrev pub fault_of : {A F : Type 0} → Result A F → Option F
 fault_of (Ok x) = None
 fault_of (Err f) = Some f
 
 -- a test that fails, and what must hold: the same question asked the other way
-guard_fault : {A B : Type 0} (fails holds : Bool) (cause : TpduCause) (place : ℕ) (r : Result A TpduFault) (g : A → Result B TpduFault) (steps : List (Option TpduFault))
+pub guard_fault : {A B F : Type 0} (fails holds : Bool) (fault : F) (r : Result A F) (g : A → Result B F) (steps : List (Option F))
     → holds ≡ not fails → (fails ≡ false → fault_of (r >>= g) ≡ first_failing steps)
-    → fault_of (cond fails (Err (fault_at cause place)) r >>= g) ≡ first_failing (must holds (fault_at cause place) ∷ steps)
-guard_fault true holds cause place r g steps e h = rw e refl
-guard_fault false holds cause place r g steps e h = rw e (h refl)
+    → fault_of (cond fails (Err fault) r >>= g) ≡ first_failing (must holds fault ∷ steps)
+guard_fault true holds fault r g steps e h = rw e refl
+guard_fault false holds fault r g steps e h = rw e (h refl)
 
-unless_fault : {A B : Type 0} (o : Option TpduFault) (x : A) (g : A → Result B TpduFault) (steps : List (Option TpduFault)) → fault_of (g x) ≡ first_failing steps → fault_of (unless o x >>= g) ≡ first_failing (o ∷ steps)
+-- a fault that is found comes first
+pub unless_fault : {A B F : Type 0} (o : Option F) (x : A) (g : A → Result B F) (steps : List (Option F)) → fault_of (g x) ≡ first_failing steps → fault_of (unless o x >>= g) ≡ first_failing (o ∷ steps)
 unless_fault None x g steps h = h
 unless_fault (Some f) x g steps h = refl
 
-at_least : (n m : ℕ) → leb n m ≡ not (ltb m n)
+-- tests asked the other way
+pub at_least : (n m : ℕ) → leb n m ≡ not (ltb m n)
 at_least n m = by (ltb m n) refl
   where
     by : (b : Bool) → ltb m n ≡ b → leb n m ≡ not b
@@ -54,17 +55,16 @@ not_zero n = by (nat_eq n 0) refl
     by false e = let z = eqb-false n 0 e in le-leb 1 n (omega arith)
 
 all_hold : (a b c : Bool) → (not a && not b && not c) ≡ not (a || b || c)
-all_hold true b c = refl
-all_hold false true c = refl
 all_hold false false c = refl
+all_hold a b c = refl
 
-is_length : (i n : ℕ) → (leb 1 i && leb i 254 && ltb i n) ≡ not (nat_eq i 0 || ltb 254 i || leb n i)
+-- the length indicator is one
+pub is_length : (i n : ℕ) → (leb 1 i && leb i 254 && ltb i n) ≡ not (nat_eq i 0 || ltb 254 i || leb n i)
 is_length i n = rw (not_zero i, at_least i 254, above i n) (all_hold (nat_eq i 0) (ltb 254 i) (leb n i))
 
 is_class : (connect four : Bool) → (not connect || four) ≡ not (connect && not four)
 is_class true true = refl
-is_class true false = refl
-is_class false four = refl
+is_class connect four = refl
 
 -- the steps behind the parameters
 abbrev last_steps : Bool → Bool → Bool → Option ℕ → ℕ → List (Option TpduFault)
@@ -76,17 +76,14 @@ last_steps sealed request suits sum place =
 
 summed_fault : (sealed request suits : Bool) (at place : ℕ) (x : Found)
     → fault_of (cond sealed (cond suits (Ok tt) (Err (fault_at Body place))) (Err (fault_at Checksum at)) >>= (λ (done : ⊤). Ok x)) ≡ first_failing (last_steps sealed request suits (Some at) place)
-summed_fault false request suits at place x = refl
 summed_fault true true true at place x = refl
-summed_fault true true false at place x = refl
 summed_fault true false true at place x = refl
-summed_fault true false false at place x = refl
+summed_fault sealed request suits at place x = refl
 
 unsummed_fault : (sealed request suits : Bool) (place : ℕ) (x : Found)
     → fault_of (cond request (Err (fault_at Checksum 0)) (cond suits (Ok tt) (Err (fault_at Body place))) >>= (λ (done : ⊤). Ok x)) ≡ first_failing (last_steps sealed request suits None place)
-unsummed_fault sealed true suits place x = refl
 unsummed_fault sealed false true place x = refl
-unsummed_fault sealed false false place x = refl
+unsummed_fault sealed request suits place x = refl
 
 close_fault : (kind : Kind) (sum : Option ℕ) (all : List ℕ) (place : ℕ) (body : List ℕ) (x : Found)
     → fault_of (close_at kind sum all place body >>= (λ (done : ⊤). Ok x)) ≡ first_failing (last_steps (is_sealed all) (is_request kind) (data_suits kind (length body)) sum place)
@@ -118,8 +115,8 @@ sections_fault extended octets kind x =
     let later = first_failing (parameter_steps kind (3 + count) parameters (left_in (drop count inside)))
     ∷ last_steps (is_sealed (whole kind octets)) (is_request kind) (data_suits kind (length (body_of kind octets))) (sum_place (3 + count) parameters) (indicator octets + 2) in
     let class = not (is_connect kind) || four in
-    guard_fault (ltb (length inside) count) (leb count (length inside)) Fixed 1 _ _ (must class (fault_at Class 7) ∷ later) (at_least count (length inside)) (λ long.
-    guard_fault (is_connect kind && not four) class Class 7 _ _ later (is_class (is_connect kind) four) (λ passes.
+    guard_fault (ltb (length inside) count) (leb count (length inside)) (fault_at Fixed 1) _ _ (must class (fault_at Class 7) ∷ later) (at_least count (length inside)) (λ long.
+    guard_fault (is_connect kind && not four) class (fault_at Class 7) _ _ later (is_class (is_connect kind) four) (λ passes.
     let enough : length (take count inside) ≡ count = omega (arith, length-take count inside, ltb-false _ _ long) in
     let sections : Sections = record { format = format; fixed = take count inside; parameters = drop count inside } in
     rw enough (checked_fault kind (3 + count) (drop count inside) (whole kind octets) (indicator octets + 2) (body_of kind octets) (x sections))))
@@ -139,6 +136,6 @@ fault-read extended octets =
     let n = length octets in
     let fits = leb 1 i && leb i 254 && ltb i n in
     let later = steps_of extended octets (kind_of (slice_index octets 1)) in
-    guard_fault (ltb n 2) (leb 2 n) Short 0 _ _ (must fits (fault_at Length 1) ∷ later) (at_least 2 n) (λ long.
-    guard_fault (nat_eq i 0 || ltb 254 i || leb n i) fits Length 1 _ _ later (is_length i n) (λ within.
+    guard_fault (ltb n 2) (leb 2 n) (fault_at Short 0) _ _ (must fits (fault_at Length 1) ∷ later) (at_least 2 n) (λ long.
+    guard_fault (nat_eq i 0 || ltb 254 i || leb n i) fits (fault_at Length 1) _ _ later (is_length i n) (λ within.
     kind_fault extended octets (kind_of (slice_index octets 1))))

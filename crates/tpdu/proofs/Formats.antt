@@ -67,9 +67,8 @@ few-sums false = omega arith
 
 sizes_length : (size preferred : Option ℕ) (extra : ℕ) → length (spelled (size_parameters size ++ preferred_parameters preferred ++ parameter 0xC6 (extra ∷ []) ∷ [])) ≡ 3 + (size_count size + size_count preferred)
 sizes_length None None extra = refl
-sizes_length None (Some number) extra = refl
 sizes_length (Some size) None extra = refl
-sizes_length (Some size) (Some number) extra = refl
+sizes_length size preferred extra = refl
 
 pub connect_length : (calling called : List ℕ) (size preferred : Option ℕ) (extra : ℕ) → length (spelled (connect_parameters calling called size preferred extra)) ≡ length calling + length called + (7 + (size_count size + size_count preferred))
 connect_length calling called size preferred extra =

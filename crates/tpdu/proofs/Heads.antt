@@ -1,11 +1,10 @@
 -- The front of a TPDU, step by step: what each step of reading gives where it passes, and that it passes
 -- where the octets are spelled so.
-use Rattle.std.proofs.Common.{◌≡◌, ℕ, zero, suc, ◌+◌, ◌/◌, ◌<◌, ◌≤◌, ◌≢◌, Bool, true, false, cond, not, ◌&&◌, ◌||◌, leb, ltb, nat_eq, List, [], ◌∷◌, ◌++◌, length, take, drop, Option, Some, None, Result, Ok, Err, refl, sym, ap, subst, ◌∙◌, arith}
+use Rattle.std.proofs.Common.{◌≡◌, ℕ, suc, ◌+◌, ◌/◌, ◌<◌, ◌≤◌, ◌≢◌, Bool, true, false, cond, not, ◌&&◌, ◌||◌, leb, ltb, nat_eq, List, [], ◌∷◌, ◌++◌, length, take, drop, Option, Some, None, Result, Ok, Err, refl, sym, ap, subst, ◌∙◌, arith}
 use Rattle.std.specs.Prelude.{is_some, slice_index, ⊤}
 use Rattle.std.proofs.lemmas.Bool.{eqb-true, leb-false, ltb-false, le-ltb, eqb-false, ne_eqb, lt-leb}
 use Rattle.std.proofs.lemmas.List.{take_at, drop_at, take-append-drop, length-append, length-take}
 use Rattle.osi_base.specs.Fletcher.{is_sealed}
-use Rattle.tpdu.specs.declared.fault.TpduFault.{TpduFault}
 use Rattle.tpdu.specs.declared.kind.Kind.{Kind}
 use Rattle.tpdu.specs.declared.tpdu.Format.{Format}
 use Rattle.tpdu.specs.Kinds.{kind_of, fixed_count, is_request, is_connect, takes_rest, data_suits}
@@ -15,25 +14,25 @@ use Rattle.tpdu.specs.steps.Reading.{Head, head_for, head_by, head_at, Sections,
 
 -- ---- steps that passed
 
-pub bind_ok : {A B : Type 0} (r : Result A TpduFault) (f : A → Result B TpduFault) (y : B) → (r >>= f) ≡ Ok y → (x : A) × (r ≡ Ok x) × (f x ≡ Ok y)
+pub bind_ok : {A B F : Type 0} (r : Result A F) (f : A → Result B F) (y : B) → (r >>= f) ≡ Ok y → (x : A) × (r ≡ Ok x) × (f x ≡ Ok y)
 bind_ok (Ok x) f y e = (x, refl, e)
 bind_ok (Err d) f y e = absurd cc
 
-abbrev pub done : {A : Type 0} → A → Result A TpduFault
+abbrev pub done : {A F : Type 0} → A → Result A F
 done x = Ok x
 
-pub ok_is : {A : Type 0} (x y : A) → done x ≡ done y → x ≡ y
+pub ok_is : {A F : Type 0} (x y : A) → done {F = F} x ≡ done y → x ≡ y
 ok_is x y e = cc
 
-pub guard_ok : {A : Type 0} (b : Bool) (f : TpduFault) (r : Result A TpduFault) (y : A) → cond b (Err f) r ≡ Ok y → (b ≡ false) × (r ≡ Ok y)
+pub guard_ok : {A F : Type 0} (b : Bool) (f : F) (r : Result A F) (y : A) → cond b (Err f) r ≡ Ok y → (b ≡ false) × (r ≡ Ok y)
 guard_ok true f r y e = absurd cc
 guard_ok false f r y e = (refl, e)
 
-pub pass_ok : {A : Type 0} (b : Bool) (f : TpduFault) (r : Result A TpduFault) (y : A) → cond b r (Err f) ≡ Ok y → (b ≡ true) × (r ≡ Ok y)
+pub pass_ok : {A F : Type 0} (b : Bool) (f : F) (r : Result A F) (y : A) → cond b r (Err f) ≡ Ok y → (b ≡ true) × (r ≡ Ok y)
 pass_ok true f r y e = (refl, e)
 pass_ok false f r y e = absurd cc
 
-pub unless_ok : {A : Type 0} (o : Option TpduFault) (x y : A) → unless o x ≡ Ok y → (o ≡ None) × (x ≡ y)
+pub unless_ok : {A F : Type 0} (o : Option F) (x y : A) → unless o x ≡ Ok y → (o ≡ None) × (x ≡ y)
 unless_ok None x y e = (refl, ok_is x y e)
 unless_ok (Some f) x y e = absurd cc
 
@@ -66,10 +65,20 @@ cut_at k code more le =
     }
 
 pub cut : (octets : List ℕ) → 0 < indicator octets → indicator octets < length octets → Cut octets
-cut [] some within = absurd (omega arith)
-cut (zero ∷ more) some within = absurd (omega arith)
-cut (suc k ∷ []) some within = absurd (omega arith)
 cut (suc k ∷ code ∷ more) some within = cut_at k code more (omega arith)
+cut octets some within = absurd (omega arith)
+
+-- the length indicator is none
+abbrev pub is_unusable : List ℕ → Bool
+is_unusable octets = nat_eq (indicator octets) 0 || ltb 254 (indicator octets) || leb (length octets) (indicator octets)
+
+pub usable : (octets : List ℕ) → is_unusable octets ≡ false → (0 < indicator octets) × (indicator octets < length octets) × (indicator octets ≤ 254)
+usable octets e =
+    let i = indicator octets in
+    let c = or_false (nat_eq i 0 || ltb 254 i) (leb (length octets) i) e in
+    let d = or_false (nat_eq i 0) (ltb 254 i) c.0 in
+    let some : i ≢ 0 = eqb-false _ _ d.0 in
+    (omega arith, leb-false _ _ c.1, ltb-false _ _ d.1)
 
 pub record HeadIs (octets : List ℕ) (head : Head) : Type 0 where
   pub least : 0 < indicator octets
@@ -89,14 +98,11 @@ head_by-ok octets (Some kind) head e =
 pub head_ok : (octets : List ℕ) (head : Head) → head_at octets ≡ Ok head → HeadIs octets head
 unfolding head_at
 head_ok octets head e =
-    let i = indicator octets in
     let a = guard_ok (ltb (length octets) 2) _ _ head e in
-    let b = guard_ok (nat_eq i 0 || ltb 254 i || leb (length octets) i) _ _ head a.1 in
-    let c = or_false (nat_eq i 0 || ltb 254 i) (leb (length octets) i) b.0 in
-    let d = or_false (nat_eq i 0) (ltb 254 i) c.0 in
+    let b = guard_ok (is_unusable octets) _ _ head a.1 in
+    let i = usable octets b.0 in
     let h = head_by-ok octets (kind_of (slice_index octets 1)) head b.1 in
-    let some : i ≢ 0 = eqb-false _ _ d.0 in
-    record { least = omega arith; most = leb-false _ _ c.1; used = ltb-false _ _ d.1; kind = h.0; is = h.1 }
+    record { least = i.0; most = i.1; used = i.2; kind = h.0; is = h.1 }
 
 -- octets that are spelled so: a length indicator, a code, fields, and what is behind them
 pub record Fronted (octets : List ℕ) (code : ℕ) (inside after : List ℕ) : Type 0 where

@@ -30,9 +30,7 @@ both_true false b one other = absurd cc
 
 both : (a b c : Bool) (x : Option TpduCause) → cond (a && b && c) None x ≡ None → (x ≡ None → ⊥) → (a ≡ true) × (b ≡ true) × (c ≡ true)
 both true true true x e no_none = (refl, refl, refl)
-both true true false x e no_none = absurd (no_none e)
-both true false c x e no_none = absurd (no_none e)
-both false b c x e no_none = absurd (no_none e)
+both a b c x e no_none = absurd (no_none e)
 
 some_cause : (cause : TpduCause) → (let o : Option TpduCause = Some cause in o) ≡ None → ⊥
 some_cause cause e = cc

@@ -126,13 +126,10 @@ known_preferred number some low = ap is_some (preferred_again number some low)
 
 connect_has : (calling called : List ℕ) (octets preferred : Option ℕ) (extra : ℕ) (summed : Bool) (first second : ℕ) → has_sum (connect_parameters calling called octets preferred extra ++ sums_for summed first second) ≡ summed
 connect_has calling called None None extra true first second = refl
-connect_has calling called None None extra false first second = refl
 connect_has calling called None (Some number) extra true first second = refl
-connect_has calling called None (Some number) extra false first second = refl
 connect_has calling called (Some octets) None extra true first second = refl
-connect_has calling called (Some octets) None extra false first second = refl
 connect_has calling called (Some octets) (Some number) extra true first second = refl
-connect_has calling called (Some octets) (Some number) extra false first second = refl
+connect_has calling called octets preferred extra summed first second = refl
 
 -- sizes, where they are there, and then the rest
 sizes_suit : (kind : Kind) (octets preferred : Option ℕ) (extra : ℕ) (summed : Bool) (first second : ℕ) → ((size : ℕ) → IsSome (code_in sizes size) → Suits kind (parameter 0xC0 (size_code size ∷ [])))
@@ -189,9 +186,8 @@ connect_value calling called (Some s) (Some n) extra false first second known so
 
 ack_has_by : (b summed : Bool) (value : List ℕ) (first second : ℕ) → has_sum (cond b [] (parameter 0x8A value ∷ []) ++ sums_for summed first second) ≡ summed
 ack_has_by true true value first second = refl
-ack_has_by true false value first second = refl
 ack_has_by false true value first second = refl
-ack_has_by false false value first second = refl
+ack_has_by b summed value first second = refl
 
 ack_suits_by : (b summed : Bool) (value : List ℕ) (first second : ℕ) → length value ≡ 2 → AllByRecursion (Suits Ak) (cond b [] (parameter 0x8A value ∷ []) ++ sums_for summed first second)
 ack_suits_by true summed value first second two = sums_suit Ak summed first second (omega arith, omega arith, λ e. absurd (omega arith), λ e. absurd (omega arith))

@@ -12,7 +12,8 @@ use Rattle.clnp_system.specs.Node.{Frame, Node, Reaction}
 use Rattle.clnp_system.specs.Receiving.{Does, coming}
 use Rattle.clnp_system.specs.Setting.{bound_of}
 use Rattle.clnp_system.specs.Tables.{rows_tables}
-use Rattle.clnp_system.specs.Verdicts.{IsRouteOf, verdict}
+use Rattle.clnp_system.specs.Verdicts.{verdict}
+use Rattle.clnp_system.specs.SourceRouting.{IsRouteOf}
 use Rattle.clnp_system.specs.Written.{HasPdu, header_in}
 use Rattle.clnp_entity.specs.declared.received_frame.ReceivedFrame.{ReceivedFrame}
 

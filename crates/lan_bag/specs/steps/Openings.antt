@@ -3,7 +3,8 @@ use Rattle.std.specs.Prelude.{◌≡◌, ℕ, ◌+◌, ◌<◌, ◌≤◌, Bool,
 use Rattle.std.specs.List.{list_any}
 use Rattle.lan_bag.specs.declared.setup.Lan.{Lan}
 use Rattle.lan_bag.specs.declared.setup.PortRow.{PortRow}
-use Rattle.lan_bag.specs.Rows.{has_sent, is_one_of}
+use Rattle.lan_bag.specs.Rows.{has_sent}
+use Rattle.lan_bag.specs.Receivers.{is_one_of}
 use Rattle.lan_bag.specs.Frames.{Frame, has_taken, kept, is_live, picked_of, is_taken}
 
 -- the lesser of two systems, where there are two

@@ -3,7 +3,7 @@ use Rattle.std.specs.Prelude.{◌≡◌, ℕ, ◌<◌, ◌==◌, Bool, true, fal
 use Rattle.std.specs.List.{filter, list_any}
 use Rattle.lan_bag.specs.declared.setup.Lan.{Lan}
 use Rattle.lan_bag.specs.declared.setup.PortRow.{PortRow}
-use Rattle.lan_bag.specs.Rows.{is_named_by, group_of_kind}
+use Rattle.lan_bag.specs.Receivers.{is_named_by, group_of_kind}
 
 -- the LANs and the ports
 pub record Setting : Type 0 where

@@ -21,7 +21,8 @@ use Rattle.law_carrier_answers.specs.Answers.{AlwaysAnswers, AreOctets, Asked, C
 use Rattle.law_carrier_answers.proofs.Gatherings.{some_gathering}
 use Rattle.lan_frame.specs.Frame.{has_llc, is_alien, length_field}
 use Rattle.lan_bag.specs.Bag.{Bag, BagStep, after_choose, after_inject, after_offer, after_pick, frame_note, link_of, picked_in}
-use Rattle.lan_bag.specs.Frames.{frame_of, is_live, kept, kept_at, marked, marked_at, marked_frame, offered}
+use Rattle.lan_bag.specs.Frames.{frame_of, is_live, kept, kept_at, marked, marked_at, marked_frame}
+use Rattle.lan_bag.specs.Offers.{offered}
 use Rattle.lan_bag.specs.Frames.{Frame as LanFrame}
 use Rattle.lan_bag.specs.Reading.{up_in, ups_of}
 use Rattle.lan_bag.specs.Rows.{is_on, sender_of}

@@ -9,7 +9,7 @@ use Rattle.lan_bag.specs.declared.setup.Lan.{Lan}
 use Rattle.lan_bag.specs.declared.setup.PortRow.{PortRow}
 use Rattle.lan_bag.specs.Bag.{Bag, link_of}
 use Rattle.lan_bag.specs.Frames.{Frame, kept}
-use Rattle.lan_bag.specs.Rows.{is_one_of}
+use Rattle.lan_bag.specs.Receivers.{is_one_of}
 use Rattle.lan_bag.specs.steps.Openings.{IsFirstOpen, IsLeastOpen, is_open, is_open_at, is_open_to}
 use Rattle.lan_bag.proofs.Openings.{IsLeastAmong, least_fresh, least_open, none_fresh, shut}
 

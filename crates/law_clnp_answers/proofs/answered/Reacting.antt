@@ -35,10 +35,11 @@ use Rattle.esis_pdu.specs.declared.hello.Hello.TheVariants.{Esh, Ish, Rd}
 use Rattle.esis_pdu.specs.Faults.{IsEsisFault}
 use Rattle.esis_pdu.specs.Hellos.{Esis, IsEsis}
 use Rattle.esis_pdu.proofs.Grammar.{front_or_fault as hello_or_fault}
-use Rattle.esis_tables.specs.Rows.{Rows, count_with, heard_table}
+use Rattle.esis_tables.specs.Rows.{Rows, heard_table}
+use Rattle.esis_tables.specs.Room.{count_with}
 use Rattle.esis_tables.specs.Told.{Told, on_lan, told_of}
-use Rattle.clnp_system.specs.declared.aim.Aim.{Aim}
-use Rattle.clnp_system.specs.declared.aim.Aim.TheVariants.{Free, Entry, Forbidden}
+use Rattle.clnp_system.specs.declared.source_routing.Aim.{Aim}
+use Rattle.clnp_system.specs.declared.source_routing.Aim.TheVariants.{Free, Entry, Forbidden}
 use Rattle.clnp_system.specs.declared.verdict.Verdict.{Verdict}
 use Rattle.clnp_system.specs.declared.verdict.Verdict.TheVariants.{Discard, Tell, Take, Join, Onward}
 use Rattle.clnp_system.specs.Forwarding as forwarding
@@ -50,7 +51,8 @@ use Rattle.clnp_system.specs.Receiving.{Alien, BadHello, Does, Elsewhere, Faulty
 use Rattle.clnp_system.specs.Reporting.{discarded_octets, discarded_pdu}
 use Rattle.clnp_system.specs.Setting.{Setting, bound_of, is_own_system, port_on}
 use Rattle.clnp_system.specs.Tables.{heard_rows, rows_tables}
-use Rattle.clnp_system.specs.Verdicts.{IsRoute, aim_of, by_aim, for_this, is_titled, to_destination, to_entry, verdict, whole_or_part}
+use Rattle.clnp_system.specs.Verdicts.{by_aim, for_this, is_titled, to_destination, to_entry, verdict, whole_or_part}
+use Rattle.clnp_system.specs.SourceRouting.{IsRoute, aim_of}
 use Rattle.clnp_system.specs.Written.{HasPdu, header_in}
 use Rattle.law_carrier_answers.specs.Answers.{AreOctets}
 use Rattle.law_clnp_answers.specs.Serving.{WaitsInOctets}

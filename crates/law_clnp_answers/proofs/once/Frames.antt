@@ -9,7 +9,8 @@ use Rattle.clnp_segment.specs.Cutting.{Cuts}
 use Rattle.esis_pdu.specs.declared.hello.Hello.{Hello}
 use Rattle.esis_pdu.specs.declared.hello.Hello.TheVariants.{Rd}
 use Rattle.esis_pdu.proofs.Drafts.{one_writing as one_hello_writing}
-use Rattle.clnp_system.specs.Hellos.{AnswersGroup, AreHellos, HellosIf, RedirectsTo, ToSenderIf, hearers, is_detour, own_esh, own_hello, sender}
+use Rattle.clnp_system.specs.Hellos.{AnswersGroup, AreHellos, HellosIf, ToSenderIf, hearers, own_esh, own_hello, sender}
+use Rattle.clnp_system.specs.Redirect.{RedirectsTo, is_detour}
 use Rattle.clnp_system.specs.Node.{Frame}
 use Rattle.clnp_system.specs.Setting.{Setting, is_group, room_of}
 use Rattle.clnp_system.specs.Written.{AreFrames, CutFrames, GoesTo, IsHelloFrame, IsPduFrame}

@@ -11,7 +11,7 @@ use Rattle.clnp_header.specs.declared.pdu.Pdu.{Pdu}
 use Rattle.clnp_header.specs.Values.{parameters}
 use Rattle.clnp_system.specs.Forwarding.{AreOptionsOnward, Ended, Full, IsOnward, IsOptionOnward, Other, Passes, Recorded, Records, Routed, Written, past_own}
 use Rattle.clnp_system.specs.Setting.{Setting}
-use Rattle.clnp_system.specs.Verdicts.{IsRoute, IsRouteOf}
+use Rattle.clnp_system.specs.SourceRouting.{IsRoute, IsRouteOf}
 use Rattle.clnp_segment.proofs.Lists.{same_fronts, same_head, same_tail}
 
 -- ---- entries

@@ -31,7 +31,8 @@ use Rattle.clnp_system.specs.Receiving.{Alien, BadHello, Does, Elsewhere, Faulty
 use Rattle.clnp_system.specs.Reporting.{Discards, discarded_octets, discarded_pdu}
 use Rattle.clnp_system.specs.Setting.{bound_of, port_on}
 use Rattle.clnp_system.specs.Tables.{Tables}
-use Rattle.clnp_system.specs.Verdicts.{IsRouteOf, verdict}
+use Rattle.clnp_system.specs.Verdicts.{verdict}
+use Rattle.clnp_system.specs.SourceRouting.{IsRouteOf}
 use Rattle.clnp_system.specs.Written.{HasPdu}
 use Rattle.law_clnp_answers.proofs.once.Frames.{one_group_answer}
 use Rattle.clnp_segment.proofs.Lists.{same_some}

@@ -39,17 +39,18 @@ quiet_rest (step ∷ front) rest fault quiet wanted is =
 
 -- ---- places
 
-abbrev Low : Option Fault → Type 0
-Low step = IfSome step (λ found. found.place < 256)
+-- the place of a fault that a step gives is below a limit
+abbrev pub Low : ℕ → Option Fault → Type 0
+Low limit step = IfSome step (λ found. found.place < limit)
 
-bounded : (all : List (Option Fault)) (found : Fault) → AllByRecursion Low all → first_failing all ≡ Some found → found.place < 256
-bounded [] found low e = absurd cc
-bounded (None ∷ all) found low e = bounded all found low.1 e
-bounded (Some other ∷ all) found low e = let same : other ≡ found = cc in subst (λ (f : Fault). f.place < 256) same low.0
+pub bounded : (limit : ℕ) (all : List (Option Fault)) (found : Fault) → AllByRecursion (Low limit) all → first_failing all ≡ Some found → found.place < limit
+bounded limit [] found low e = absurd cc
+bounded limit (None ∷ all) found low e = bounded limit all found low.1 e
+bounded limit (Some other ∷ all) found low e = let same : other ≡ found = cc in subst (λ (f : Fault). f.place < limit) same low.0
 
-low_must : (is : Bool) (found : Fault) → found.place < 256 → Low (must is found)
-low_must true found h = tt
-low_must false found h = h
+pub low_must : (limit : ℕ) (is : Bool) (found : Fault) → found.place < limit → Low limit (must is found)
+low_must limit true found h = tt
+low_must limit false found h = h
 
 place_after : (kind : PduKind) (place : ℕ) (before : List Parameter) (rest : List ℕ) (found : Fault) → IsFaultAfter kind place before rest found → found.place ≤ place
 place_after kind place before rest found (Unfit some unfit e) = omega (arith, ap (λ (f : Fault). f.place) e)
@@ -63,14 +64,14 @@ options_place kind first octets found why =
     let within = place_after kind (first + length (spelled is.before)) is.before is.rest found is.fails in
     omega (arith, within, ap length is.parts ∙ length-append (spelled is.before) is.rest)
 
-low_reported : (report : Bool) (step : Option Fault) → Low step → Low (with_report report step)
-low_reported report None h = tt
-low_reported report (Some found) h = h
+pub low_reported : (limit : ℕ) (report : Bool) (step : Option Fault) → Low limit step → Low limit (with_report report step)
+low_reported limit report None h = tt
+low_reported limit report (Some found) h = h
 
-low_options : (kind : PduKind) (first : ℕ) (octets : List ℕ) → first + length octets < 256 → Low (first_options_fault kind first octets)
-low_options kind first octets short = by (first_options_fault kind first octets) refl
+pub low_options : (limit : ℕ) (kind : PduKind) (first : ℕ) (octets : List ℕ) → first + length octets < limit → Low limit (first_options_fault kind first octets)
+low_options limit kind first octets short = by (first_options_fault kind first octets) refl
   where
-    by : (step : Option Fault) → first_options_fault kind first octets ≡ step → Low step
+    by : (step : Option Fault) → first_options_fault kind first octets ≡ step → Low limit step
     by None e = tt
     by (Some found) e = omega (arith, options_place kind first octets found e, short)
 
@@ -95,28 +96,28 @@ behind segmented report place_ok whole_ok out_ok eights_ok end_ok segment long o
     ∷ later segmented report place_ok whole_ok out_ok eights_ok end_ok segment options
 
 behind_place : (segmented report place_ok whole_ok out_ok eights_ok end_ok : Bool) (segment long : ℕ) (options : ℕ → Option Fault) (found : Fault) → segment ≤ long → long ≤ 254
-    → ((at : ℕ) → at ≤ long → Low (options at))
+    → ((at : ℕ) → at ≤ long → Low 256 (options at))
     → first_failing (behind segmented report place_ok whole_ok out_ok eights_ok end_ok segment long options) ≡ Some found → found.place < 256
 behind_place false report place_ok whole_ok out_ok eights_ok end_ok segment long options found within short low is =
-    bounded (behind false report place_ok whole_ok out_ok eights_ok end_ok segment long options) found
-    (tt, (tt, (low (segment + 0) (omega (arith, within)), (low_must whole_ok (at_place HeaderSyntax 6 report) (omega arith), (low_must out_ok (at_place IncompletePdu 6 report) (omega arith), (low_must eights_ok (at_place HeaderSyntax 6 report) (omega arith), (tt, tt))))))) is
+    bounded 256 (behind false report place_ok whole_ok out_ok eights_ok end_ok segment long options) found
+    (tt, (tt, (low (segment + 0) (omega (arith, within)), (low_must 256 whole_ok (at_place HeaderSyntax 6 report) (omega arith), (low_must 256 out_ok (at_place IncompletePdu 6 report) (omega arith), (low_must 256 eights_ok (at_place HeaderSyntax 6 report) (omega arith), (tt, tt))))))) is
 behind_place true report place_ok whole_ok out_ok eights_ok end_ok segment long options found within short low is =
     by (nat_le (segment + 6) long) refl
   where
     by : (fits : Bool) → nat_le (segment + 6) long ≡ fits → found.place < 256
     by true e =
         let room : segment + 6 ≤ long = leb-true (segment + 6) long e in
-        bounded (behind true report place_ok whole_ok out_ok eights_ok end_ok segment long options) found (
-          low_must (nat_le (segment + 6) long) (at_place HeaderSyntax (segment + 1) report) (omega (arith, within, short)),
+        bounded 256 (behind true report place_ok whole_ok out_ok eights_ok end_ok segment long options) found (
+          low_must 256 (nat_le (segment + 6) long) (at_place HeaderSyntax (segment + 1) report) (omega (arith, within, short)),
           (
-            low_must place_ok (at_place HeaderSyntax (segment + 3) report) (omega (arith, room, short)),
+            low_must 256 place_ok (at_place HeaderSyntax (segment + 3) report) (omega (arith, room, short)),
             (
               low (segment + 6) room,
               (
-                low_must whole_ok (at_place HeaderSyntax 6 report) (omega arith),
+                low_must 256 whole_ok (at_place HeaderSyntax 6 report) (omega arith),
                 (
-                  low_must out_ok (at_place IncompletePdu 6 report) (omega arith),
-                  (low_must eights_ok (at_place HeaderSyntax 6 report) (omega arith), (low_must end_ok (at_place HeaderSyntax (segment + 5) report) (omega (arith, room, short)), tt)),
+                  low_must 256 out_ok (at_place IncompletePdu 6 report) (omega arith),
+                  (low_must 256 eights_ok (at_place HeaderSyntax 6 report) (omega arith), (low_must 256 end_ok (at_place HeaderSyntax (segment + 5) report) (omega (arith, room, short)), tt)),
                 ),
               ),
             ),
@@ -164,19 +165,8 @@ is_reported octets found is wanted =
     let report : Bool = is_dt flags && wants_report flags in
     let whole : ℕ = number_at 5 octets in
     let segment : ℕ = 10 + slice_index header 9 + 1 + slice_index header (10 + slice_index header 9) in
-    let quiet : AllByRecursion IsQuiet (take 9 all) = (
-      quiet_must _ _ refl,
-      (
-        quiet_must _ _ refl,
-        (
-          quiet_must _ _ refl,
-          (
-            quiet_must _ _ refl,
-            (quiet_must _ _ refl, (quiet_must _ _ refl, (quiet_must _ _ refl, (quiet_must _ _ refl, (quiet_must _ _ refl, tt))))),
-          ),
-        ),
-      ),
-    ) in
+    let last : AllByRecursion IsQuiet (drop 4 (take 9 all)) = (quiet_must _ _ refl, (quiet_must _ _ refl, (quiet_must _ _ refl, (quiet_must _ _ refl, (quiet_must _ _ refl, tt))))) in
+    let quiet : AllByRecursion IsQuiet (take 9 all) = (quiet_must _ _ refl, (quiet_must _ _ refl, (quiet_must _ _ refl, (quiet_must _ _ refl, last)))) in
     let none = quiet_front (take 9 all) (drop 9 all) found quiet wanted is in
     let rest = quiet_rest (take 9 all) (drop 9 all) found quiet wanted is in
     let source = source_of header (some_there _ (holds _ _ none.1.1.1.1.1.1.1.1.0)) in
@@ -188,8 +178,8 @@ is_reported octets found is wanted =
       place = behind_place (is_segmented flags) report (number_at (segment + 2) header % 8 == 0) (nat_le (length header) whole) (nat_le whole (length octets))
           (not more || is_eights (length header) whole) (is_placed more (number_at (segment + 2) header + whole) (number_at (segment + 4) header)) segment (length header)
           (λ at. with_report report (first_options_fault (kind_of flags) (at + 1) (drop at header))) found source.within short
-          (λ at le. low_reported report (first_options_fault (kind_of flags) (at + 1) (drop at header))
-          (low_options (kind_of flags) (at + 1) (drop at header) (omega (arith, length-drop at header, le, short)))) rest;
+          (λ at le. low_reported 256 report (first_options_fault (kind_of flags) (at + 1) (drop at header))
+          (low_options 256 (kind_of flags) (at + 1) (drop at header) (omega (arith, length-drop at header, le, short)))) rest;
     }
 
 source_fits : (header : List ℕ) → AreOctets header → HasSource header → IsNsap (source_in header)

@@ -9,7 +9,8 @@ use Rattle.pdu_parts.specs.Field.{field}
 use Rattle.esis_pdu.specs.declared.hello.Hello.{Hello}
 use Rattle.esis_pdu.specs.declared.hello.Hello.TheVariants.{Rd}
 use Rattle.esis_pdu.specs.Hellos.{title_field}
-use Rattle.clnp_system.specs.Hellos.{AnswersGroup, AreHellos, HellosIf, RedirectsTo, ToSenderIf, hearers, is_detour, own_esh, own_hello, sender}
+use Rattle.clnp_system.specs.Hellos.{AnswersGroup, AreHellos, HellosIf, ToSenderIf, hearers, own_esh, own_hello, sender}
+use Rattle.clnp_system.specs.Redirect.{RedirectsTo, is_detour}
 use Rattle.clnp_system.specs.Setting.{Setting, is_group, own_address, port_on}
 use Rattle.law_clnp_answers.specs.Standing.{IsHop, IsNsap, IsSetUp, IsSnpa}
 use Rattle.law_clnp_answers.proofs.written.Octets.{octets_both, octets_take}

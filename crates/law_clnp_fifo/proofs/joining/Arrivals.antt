@@ -24,7 +24,8 @@ use Rattle.clnp_system.specs.Node.{Frame, Node, Reaction, at_tick}
 use Rattle.clnp_system.specs.Receiving.{Does, Receives, Reads, came}
 use Rattle.clnp_system.specs.Setting.{Setting, bound_of, is_group, is_own_system, port_on}
 use Rattle.clnp_system.specs.Tables.{Tables}
-use Rattle.clnp_system.specs.Verdicts.{IsRoute, aim_of, by_aim, for_this, verdict, whole_or_part}
+use Rattle.clnp_system.specs.Verdicts.{by_aim, for_this, verdict, whole_or_part}
+use Rattle.clnp_system.specs.SourceRouting.{IsRoute, aim_of}
 use Rattle.clnp_system.specs.Written.{HasPdu, header_in}
 
 -- ---- a PDU in a frame

@@ -15,7 +15,8 @@ use Rattle.clnp_system.specs.Node.{Frame, Node, Reaction}
 use Rattle.clnp_system.specs.Receiving.{Alien, BadHello, Does, Elsewhere, Faulty, HearsHello, JoinGives, Joins, Reads, Receives, coming}
 use Rattle.clnp_system.specs.Setting.{bound_of, port_on}
 use Rattle.clnp_system.specs.Tables.{Tables}
-use Rattle.clnp_system.specs.Verdicts.{IsRoute, IsRouteOf, verdict, whole_or_part}
+use Rattle.clnp_system.specs.Verdicts.{verdict, whole_or_part}
+use Rattle.clnp_system.specs.SourceRouting.{IsRoute, IsRouteOf}
 use Rattle.clnp_system.specs.Written.{HasPdu}
 use Rattle.law_clnp_answers.proofs.once.Options.{one_route_of}
 use Rattle.law_clnp_answers.proofs.once.Receivings.{hello_first, pdu_first}

@@ -75,7 +75,7 @@ module _ (rows : List PortRow) (first second : Setting) (here there : Port) (cal
   abbrev titles : List (List ℕ)
   titles = titles_of first second
 
-  apart_back : is_same_system second.title first.title ≡ false
+  pub apart_back : is_same_system second.title first.title ≡ false
   apart_back = titles_turned second.title first.title ∙ calm.apart
 
   -- a unit to that address
@@ -88,9 +88,8 @@ module _ (rows : List PortRow) (first second : Setting) (here there : Port) (cal
       subst IsSingle (sym found) (ap (λ (p : Port). is_group p.snpa) port ∙ single)
 
   -- to the own system it has no hop
-  to_itself : (node : Node Rows) (now : ℕ) (address : List ℕ) → is_own_system node.setup address ≡ true → IsSingle (hop_of rows_tables node now address)
-  to_itself node now address own =
-      let none : hop_of rows_tables node now address ≡ None =
+  pub none_to_itself : (node : Node Rows) (now : ℕ) (address : List ℕ) → is_own_system node.setup address ≡ true → hop_of rows_tables node now address ≡ None
+  none_to_itself node now address own =
       (λ i.
       if (length node.setup.ports == 0) || own i then None
       else or_else (found_hop rows_tables node now address) (if node.setup.end then group_hop node.setup.ports else None))
@@ -98,18 +97,20 @@ module _ (rows : List PortRow) (first second : Setting) (here there : Port) (cal
       (λ (b : Bool).
       if b then None
       else or_else (found_hop rows_tables node now address) (if node.setup.end then group_hop node.setup.ports else None))
-      (or_true (length node.setup.ports == 0)) in
-      subst IsSingle (sym none) tt
+      (or_true (length node.setup.ports == 0))
 
-  own_of : (node : Node Rows) (setting : Setting) (title address : List ℕ) (selector : ℕ) → node.setup ≡ setting → title ≡ setting.title → address ≡ system_part title ++ selector ∷ []
+  to_itself : (node : Node Rows) (now : ℕ) (address : List ℕ) → is_own_system node.setup address ≡ true → IsSingle (hop_of rows_tables node now address)
+  to_itself node now address own = subst IsSingle (sym (none_to_itself node now address own)) tt
+
+  pub own_of : (node : Node Rows) (setting : Setting) (title address : List ℕ) (selector : ℕ) → node.setup ≡ setting → title ≡ setting.title → address ≡ system_part title ++ selector ∷ []
       → is_own_system node.setup address ≡ true
   own_of node setting title address selector setup title_is address_is =
       (λ i. is_same_system (address_is i) (setup i).title) ∙ (made_of title setting.title selector ∙ (ap (λ (t : List ℕ). is_same_system t setting.title) title_is ∙ own_title setting.title))
 
-  knows_calm : (setting : Setting) (node : Node Rows) → node.setup ≡ setting → KnowsNobody titles node → IsCalmNode setting node
-  knows_calm setting node setup knows = record { setup = setup; neighbours = knows.neighbours; redirects = knows.redirects }
+  pub calm_of : (setting : Setting) (node : Node Rows) → node.setup ≡ setting → KnowsNobody titles node → IsCalmNode setting node
+  calm_of setting node setup knows = record { setup = setup; neighbours = knows.neighbours; redirects = knows.redirects }
 
-  made_from : (title other address : List ℕ) (selector : ℕ) → title ≡ other → address ≡ system_part title ++ selector ∷ [] → address ≡ system_part other ++ selector ∷ []
+  pub made_from : (title other address : List ℕ) (selector : ℕ) → title ≡ other → address ≡ system_part title ++ selector ∷ [] → address ≡ system_part other ++ selector ∷ []
   made_from title other address selector same is = is ∙ ap (λ (t : List ℕ). system_part t ++ selector ∷ []) same
 
   first_single : (node : Node Rows) (now : ℕ) (address : List ℕ) → node.setup ≡ first → KnowsNobody titles node → IsOfUsers titles address → IsSingle (hop_of rows_tables node now address)
@@ -120,7 +121,7 @@ module _ (rows : List PortRow) (first second : Setting) (here there : Port) (cal
       by (inr other) =
           let to = made_from user.1.title second.title address user.1.selector other.1 user.1.address_is in
           single_if node now address (calm.leads.routed user.1.selector).0 there
-          (finds first second 0 here there calm.first_at calm.leads 1 calm.second_at apart_back node (knows_calm first node setup knows) now (to_it address) user.1.selector user.1.known to)
+          (finds first second 0 here there calm.first_at calm.leads 1 calm.second_at apart_back node (calm_of first node setup knows) now (to_it address) user.1.selector user.1.known to)
           (calm.leads.routed user.1.selector).2 calm.second_at.single
 
   second_single : (node : Node Rows) (now : ℕ) (address : List ℕ) → node.setup ≡ second → KnowsNobody titles node → IsOfUsers titles address → IsSingle (hop_of rows_tables node now address)
@@ -130,7 +131,7 @@ module _ (rows : List PortRow) (first second : Setting) (here there : Port) (cal
       by (inl other) =
           let to = made_from user.1.title first.title address user.1.selector other.1 user.1.address_is in
           single_if node now address (calm.back.routed user.1.selector).0 here
-          (finds second first 1 there here calm.second_at calm.back 0 calm.first_at calm.apart node (knows_calm second node setup knows) now (to_it address) user.1.selector user.1.known to)
+          (finds second first 1 there here calm.second_at calm.back 0 calm.first_at calm.apart node (calm_of second node setup knows) now (to_it address) user.1.selector user.1.known to)
           (calm.back.routed user.1.selector).2 calm.first_at.single
       by (inr own) = to_itself node now address (own_of node second user.1.title address user.1.selector setup own.1 user.1.address_is)
 

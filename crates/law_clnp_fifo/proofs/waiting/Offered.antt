@@ -36,7 +36,7 @@ use Rattle.law_clnp_fifo.specs.Waiting.{AreLeft, GoesAcross, WaitsBeside}
 use Rattle.law_clnp_fifo.proofs.Fresh.{is_new}
 use Rattle.law_clnp_fifo.proofs.joining.Brings.{cut_brings}
 use Rattle.law_clnp_fifo.proofs.waiting.Queues.{IsFewer, left_behind}
-use Rattle.law_clnp_fifo.proofs.waiting.Reported.{apart_back, calm_of, made_from, own_of}
+use Rattle.law_clnp_fifo.proofs.reached.Reports.{apart_back, calm_of, made_from, own_of}
 
 pub same_two : (a b c d : Node Rows) → ◌≡◌ {A = List (Node Rows)} (a ∷ b ∷ []) (c ∷ d ∷ []) → (a ≡ c) × (b ≡ d)
 same_two a b c d e = (cc, cc)

@@ -43,6 +43,7 @@ use Rattle.law_clnp_fifo.proofs.Ticked.{IsToGroup, due_hellos_go}
 use Rattle.law_clnp_fifo.proofs.joining.Arrivals.{has_pdu}
 use Rattle.law_clnp_fifo.specs.Reached.{IsOfUsers, KnowsNobody}
 use Rattle.law_clnp_fifo.specs.Waiting.{Greets, IsIdle, IsReport, ReportsToFirst, ReportsToSecond}
+use Rattle.law_clnp_fifo.proofs.reached.Reports.{apart_back, calm_of, made_from, none_to_itself, own_of}
 use Rattle.law_clnp_fifo.proofs.reached.Ticked.{IsExpiredOfUsers, expires_of_users, ticks_leaves}
 
 -- ---- one that comes
@@ -164,51 +165,22 @@ reports_each node to now (one ∷ others) frames ways h =
     subst (AllByRecursion (IsReport node.setup to)) (sym h.4)
     (all_both (IsReport node.setup to) h.0 h.1 (reports_if (discarded_unit one).report node to now (discarded_unit one) h.0 ways.0 h.2) (reports_each node to now others h.1 ways.1 h.3))
 
-or_true : (b : Bool) → (b || true) ≡ true
-or_true true = refl
-or_true false = refl
-
 module _ (rows : List PortRow) (first second : Setting) (here there : Port) (calm : IsCalmNet rows first second here there) where
   abbrev titles : List (List ℕ)
   titles = titles_of first second
 
-  pub apart_back : is_same_system second.title first.title ≡ false
-  apart_back = titles_turned second.title first.title ∙ calm.apart
-
   abbrev to_it : List ℕ → CarriedUnit (List ℕ)
   to_it address = record { from = []; to = address; octets = [] }
-
-  none_to_itself : (node : Node Rows) (now : ℕ) (address : List ℕ) → is_own_system node.setup address ≡ true → hop_of rows_tables node now address ≡ None
-  none_to_itself node now address own =
-      (λ i.
-      if (length node.setup.ports == 0) || own i then None
-      else or_else (found_hop rows_tables node now address) (if node.setup.end then group_hop node.setup.ports else None))
-      ∙ ap
-      (λ (b : Bool).
-      if b then None
-      else or_else (found_hop rows_tables node now address) (if node.setup.end then group_hop node.setup.ports else None))
-      (or_true (length node.setup.ports == 0))
-
-  pub calm_of : (setting : Setting) (node : Node Rows) → node.setup ≡ setting → KnowsNobody titles node → IsCalmNode setting node
-  calm_of setting node setup knows = record { setup = setup; neighbours = knows.neighbours; redirects = knows.redirects }
-
-  pub own_of : (node : Node Rows) (setting : Setting) (title address : List ℕ) (selector : ℕ) → node.setup ≡ setting → title ≡ setting.title → address ≡ system_part title ++ selector ∷ []
-      → is_own_system node.setup address ≡ true
-  own_of node setting title address selector setup title_is address_is =
-      (λ i. is_same_system (address_is i) (setup i).title) ∙ (made_of title setting.title selector ∙ (ap (λ (t : List ℕ). is_same_system t setting.title) title_is ∙ own_title setting.title))
-
-  pub made_from : (title other address : List ℕ) (selector : ℕ) → title ≡ other → address ≡ system_part title ++ selector ∷ [] → address ≡ system_part other ++ selector ∷ []
-  made_from title other address selector same is = is ∙ ap (λ (t : List ℕ). system_part t ++ selector ∷ []) same
 
   first_to : (node : Node Rows) (now : ℕ) (address : List ℕ) → node.setup ≡ first → KnowsNobody titles node → IsOfUsers titles address → IsTo there (hop_of rows_tables node now address)
   first_to node now address setup knows user = by (user_of first.title second.title user.1.title user.0 user.1.title_is)
     where
       by : ((user.0 ≡ 0) × (user.1.title ≡ first.title)) ⊎ ((user.0 ≡ 1) × (user.1.title ≡ second.title)) → IsTo there (hop_of rows_tables node now address)
-      by (inl own) = subst (IsTo there) (sym (none_to_itself node now address (own_of node first user.1.title address user.1.selector setup own.1 user.1.address_is))) tt
+      by (inl own) = subst (IsTo there) (sym (none_to_itself rows first second here there calm node now address (own_of rows first second here there calm node first user.1.title address user.1.selector setup own.1 user.1.address_is))) tt
       by (inr other) =
-          let to = made_from user.1.title second.title address user.1.selector other.1 user.1.address_is in
+          let to = made_from rows first second here there calm user.1.title second.title address user.1.selector other.1 user.1.address_is in
           subst (IsTo there)
-          (sym (finds first second 0 here there calm.first_at calm.leads 1 calm.second_at apart_back node (calm_of first node setup knows) now (to_it address) user.1.selector user.1.known to))
+          (sym (finds first second 0 here there calm.first_at calm.leads 1 calm.second_at (apart_back rows first second here there calm) node (calm_of rows first second here there calm first node setup knows) now (to_it address) user.1.selector user.1.known to))
           (calm.leads.routed user.1.selector).2
 
   second_to : (node : Node Rows) (now : ℕ) (address : List ℕ) → node.setup ≡ second → KnowsNobody titles node → IsOfUsers titles address → IsTo here (hop_of rows_tables node now address)
@@ -216,11 +188,11 @@ module _ (rows : List PortRow) (first second : Setting) (here there : Port) (cal
     where
       by : ((user.0 ≡ 0) × (user.1.title ≡ first.title)) ⊎ ((user.0 ≡ 1) × (user.1.title ≡ second.title)) → IsTo here (hop_of rows_tables node now address)
       by (inl other) =
-          let to = made_from user.1.title first.title address user.1.selector other.1 user.1.address_is in
+          let to = made_from rows first second here there calm user.1.title first.title address user.1.selector other.1 user.1.address_is in
           subst (IsTo here)
-          (sym (finds second first 1 there here calm.second_at calm.back 0 calm.first_at calm.apart node (calm_of second node setup knows) now (to_it address) user.1.selector user.1.known to))
+          (sym (finds second first 1 there here calm.second_at calm.back 0 calm.first_at calm.apart node (calm_of rows first second here there calm second node setup knows) now (to_it address) user.1.selector user.1.known to))
           (calm.back.routed user.1.selector).2
-      by (inr own) = subst (IsTo here) (sym (none_to_itself node now address (own_of node second user.1.title address user.1.selector setup own.1 user.1.address_is))) tt
+      by (inr own) = subst (IsTo here) (sym (none_to_itself rows first second here there calm node now address (own_of rows first second here there calm node second user.1.title address user.1.selector setup own.1 user.1.address_is))) tt
 
   abbrev Passes : Frame → Type 0
   Passes = IsIdle true titles first second here there

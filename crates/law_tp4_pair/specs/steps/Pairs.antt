@@ -1,6 +1,7 @@
 -- What the claim follows from: each two partner ends that are Opened are a pair that went from its accept to where it is, and no end is due.
 use Rattle.std.specs.Prelude.{◌≡◌, ℕ, ◌+◌, List, Option, Some, Contains}
-use Rattle.script_journal.specs.Lawful.{AreEnds, shown, submitted}
+use Rattle.script_journal.specs.Lawful.{shown, submitted}
+use Rattle.script_journal.specs.Partner.{AreEnds}
 use Rattle.script_journal.specs.declared.event.Event.{Event}
 use Rattle.script_journal.specs.declared.event.Event.TheVariants as events
 use Rattle.tp4_conn.specs.declared.call.UserCall.TheVariants.{Accept}

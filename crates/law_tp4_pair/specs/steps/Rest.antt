@@ -2,8 +2,8 @@
 -- references and numbers). Of this the claim says what is shown.
 use Rattle.std.specs.Prelude.{◌≡◌, ◌⊎◌, ◌≤◌, [], None}
 use Rattle.script_journal.specs.Lawful.{expediteds, normals}
-use Rattle.tp4_flow.specs.Half.{Half}
-use Rattle.tp4_sending.specs.FlowSender.{FlowSender}
+use Rattle.tp4_flow.specs.ReceivingHalf.{Half}
+use Rattle.tp4_sending.specs.SendingHalf.{FlowSender}
 use Rattle.tp4_sending.specs.Pieces.{end_of}
 use Rattle.tp4_conn.specs.declared.states.InOpened.{InOpened}
 use Rattle.law_tp4_pair.specs.Claim.{HoldsDt, HoldsEd}

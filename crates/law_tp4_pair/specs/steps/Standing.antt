@@ -1,10 +1,10 @@
 -- What holds of a pair of ends at any time, from the CC on (X.224, class 4 state tables).
 use Rattle.std.specs.Prelude.{◌≡◌, ◌⊎◌, ℕ, ◌≤◌, List, [], ◌∷◌, Option, Some}
-use Rattle.tp4_flow.specs.Half.{ak}
+use Rattle.tp4_flow.specs.ReceivingHalf.{ak}
 use Rattle.tp4_flow.specs.declared.rules.FlowRules.{FlowRules}
 use Rattle.tpdu.specs.declared.service.Options.{Options}
 use Rattle.tp4_flow.specs.declared.step.Sent.{Sent}
-use Rattle.tp4_sending.specs.FlowSender.{at, opened}
+use Rattle.tp4_sending.specs.SendingHalf.{at, opened}
 use Rattle.tp4_conn.specs.declared.end_record.EndRecord.{EndRecord}
 use Rattle.tp4_conn.specs.declared.halves.Halves.{Halves}
 use Rattle.tp4_conn.specs.declared.states.InAkWait.{InAkWait}

@@ -3,7 +3,7 @@ use Rattle.std.specs.Prelude.{ℕ, ◌≤◌, if◌then◌else◌, List, [], ◌
 use Rattle.std.specs.Str.{bytes_eq}
 use Rattle.osi_commands.specs.declared.command.Command.{Command}
 use Rattle.osi_commands.specs.declared.command.Command.TheVariants as commands
-use Rattle.osi_commands.specs.declared.kinds.Kind.TheVariants as kinds
+use Rattle.osi_kinds.specs.declared.kinds.Kind.TheVariants as kinds
 
 abbrev pub named : List ℕ → Option Command
 named word =

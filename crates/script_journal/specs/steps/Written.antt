@@ -7,7 +7,7 @@ use Rattle.script_lines.specs.Known.{Declared}
 use Rattle.script_lines.specs.Tags.{Tags, name_at, tags_of}
 use Rattle.script_journal.specs.declared.line_fields.LineField.{LineField}
 use Rattle.script_journal.specs.declared.line_fields.LineField.TheVariants as pieces
-use Rattle.script_journal.specs.Told.{Cell, cell_text, line, octets_text}
+use Rattle.script_journal.specs.Cells.{Cell, cell_text, line, octets_text}
 
 abbrev pub piece_text : Tags → LineField → List ℕ
 piece_text tags (pieces.Word text) = text.now

@@ -3,7 +3,7 @@ use Rattle.std.specs.Prelude.{◌≡◌, ℕ, ◌+◌, ◌*◌, ◌%◌, Bool, [
 use Rattle.tp4_number.specs.declared.piece.Piece.{Piece}
 use Rattle.tp4_number.specs.Receiver.{advanced}
 use Rattle.tp4_number.specs.Window.{Held, begun_by, joined, slid}
-use Rattle.tp4_flow.specs.Half.{Half, block_in}
+use Rattle.tp4_flow.specs.ReceivingHalf.{Half, block_in}
 use Rattle.tp4_flow.specs.Told.{Told, gots}
 
 -- the piece goes to the unit that has begun; where it is the last, the unit is shown

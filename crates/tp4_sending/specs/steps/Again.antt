@@ -2,7 +2,7 @@
 use Rattle.std.specs.Prelude.{ℕ, ◌+◌, [], get_or, slice_set, if◌then◌else◌}
 use Rattle.tp4_number.specs.Sender.{sent_again}
 use Rattle.tp4_sending.specs.declared.tries.Tries.{Tries}
-use Rattle.tp4_sending.specs.FlowSender.{FlowSender, Sendings, nothing, block_in, dts_of}
+use Rattle.tp4_sending.specs.SendingHalf.{FlowSender, Sendings, nothing, block_in, dts_of}
 use Rattle.tp4_sending.specs.Pieces.{is_due, once, again}
 
 abbrev pub retried : FlowSender → ℕ → Tries → FlowSender

@@ -12,7 +12,6 @@ pub returns : goal.returns
 returns g c =
     let flow = c.flowed.ensures in
     let flowing : Flowing = record { step = flow.step; partner = flow.partner; later = flow.later; offered = flow.offered; plain = flow.plain; noted = flow.noted } in
-    let link = g.C.Carrier.link in
-    on_whole link g.C.Carrier.steps g.met.C.Carrier.keeps flowing flow.known c.journals_are_lawful.ensures.begins
+    on_whole g.C.Carrier.link g.C.Carrier.steps g.met.C.Carrier.keeps flowing flow.known c.journals_are_lawful.ensures.begins
     (λ (journal : List Event) last. (x : ℕ) (e : End) → (Stands last x e → end_at_number last x ≡ Some e) × (end_at_number last x ≡ Some e → Stands last x e))
-    (λ titles timers w journal world explains x e. (λ s. has_number link titles timers w journal world explains x e s, λ is. there_stands world x e is))
+    (λ titles timers w journal world explains x e. (λ s. has_number g.C.Carrier.link titles timers w journal world explains x e s, λ is. there_stands world x e is))

@@ -1,13 +1,9 @@
-use Rattle.std.specs.Prelude.{List}
-use Rattle.script_journal.specs.declared.event.Event.{Event}
 use Rattle.law_tp4_lawful.proofs.ActsLines.{Flowing}
-use Rattle.law_tp4_lawful.proofs.CalledStarts.{followed_by, on_whole}
-use Rattle.law_tp4_ended.proofs.Worlds.{IsFitWorld}
+use Rattle.law_tp4_lawful.proofs.CalledStarts.{followed_by}
 use Rattle.law_calm_run.specs.Service.{WaitsBy}
 use Rattle.law_recovery_run.specs.Ordered.{InOrder, ReachedFrom}
 use Rattle.law_recovery_run.proofs.Ordered.{is_fifo, keeps_order}
-use Rattle.law_recovery_walk.proofs.Fitting.{calls_fit}
-use Rattle.law_recovery_walk.proofs.Settling.{IsExplained}
+use Rattle.law_recovery_walk.proofs.Fitting.{calls_explained}
 use Rattle.std.specs.List.{AllByRecursion}
 use Rattle.law_recovery_request.specs.Requesting.{IsApart}
 use Rattle.law_recovery_request.proofs.Settling.{begins, begins_apart, goes_on, listening, settles_on}
@@ -19,9 +15,7 @@ returns-clause-comes g c titles first queue_of prompt timers early made old new 
     let flowing : Flowing = record { step = flow.step; partner = flow.partner; later = flow.later; offered = flow.offered; plain = flow.plain; noted = flow.noted } in
     let link = g.C.Carrier.link in
     let steps = g.C.Carrier.steps in
-    let explained = on_whole link steps g.met.C.Carrier.keeps flowing flow.known c.journals_are_lawful.ensures.begins (λ (journal : List Event) world. IsFitWorld link world → IsExplained link journal world)
-    (λ titles timers w journal world explains fit. record { titles = titles; timers = timers; w = w; explains = explains; fit = fit }) titles timers early old calls
-    (calls_fit link steps g.met.C.Carrier.keeps titles timers early old calls) in
+    let explained = calls_explained link steps g.met.C.Carrier.keeps flowing flow.known c.journals_are_lawful.ensures.begins titles timers early old calls in
     settles_on link (InOrder link steps) (keeps_order link steps g.met.C.Carrier.keeps) titles (WaitsBy queue_of) (is_fifo link steps titles (ReachedFrom link steps titles first) (WaitsBy queue_of) prompt)
     (followed_by flowing flow.known) c.moved.ensures.going q.calling.system x q.calling.entity.own b r (AllByRecursion (IsApart q.calling.system q.calling.entity.own b r) hall.posts)
     0 old made new settles early hall queue
@@ -34,9 +28,7 @@ returns-clause-stays g c titles first queue_of prompt timers early made old new 
     let flowing : Flowing = record { step = flow.step; partner = flow.partner; later = flow.later; offered = flow.offered; plain = flow.plain; noted = flow.noted } in
     let link = g.C.Carrier.link in
     let steps = g.C.Carrier.steps in
-    let explained = on_whole link steps g.met.C.Carrier.keeps flowing flow.known c.journals_are_lawful.ensures.begins (λ (journal : List Event) world. IsFitWorld link world → IsExplained link journal world)
-    (λ titles timers w journal world explains fit. record { titles = titles; timers = timers; w = w; explains = explains; fit = fit }) titles timers early old calls
-    (calls_fit link steps g.met.C.Carrier.keeps titles timers early old calls) in
+    let explained = calls_explained link steps g.met.C.Carrier.keeps flowing flow.known c.journals_are_lawful.ensures.begins titles timers early old calls in
     settles_on link (InOrder link steps) (keeps_order link steps g.met.C.Carrier.keeps) titles (WaitsBy queue_of) (is_fifo link steps titles (ReachedFrom link steps titles first) (WaitsBy queue_of) prompt)
     (followed_by flowing flow.known) c.moved.ensures.going i.calling.system x i.calling.entity.own b r (AllByRecursion (IsApart i.calling.system i.calling.entity.own b r) hall.posts)
     0 old made new settles early hall queue

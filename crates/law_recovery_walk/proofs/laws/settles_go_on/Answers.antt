@@ -1,13 +1,10 @@
-use Rattle.std.specs.Prelude.{List}
-use Rattle.script_journal.specs.declared.event.Event.{Event}
 use Rattle.law_tp4_lawful.proofs.ActsLines.{Flowing}
-use Rattle.law_tp4_lawful.proofs.CalledStarts.{followed_by, on_whole}
-use Rattle.law_tp4_ended.proofs.Worlds.{IsFitWorld}
+use Rattle.law_tp4_lawful.proofs.CalledStarts.{followed_by}
 use Rattle.law_calm_run.specs.Service.{WaitsBy}
 use Rattle.law_recovery_run.specs.Ordered.{InOrder, ReachedFrom}
 use Rattle.law_recovery_run.proofs.Ordered.{is_fifo, keeps_order}
-use Rattle.law_recovery_walk.proofs.Fitting.{calls_fit}
-use Rattle.law_recovery_walk.proofs.Settling.{IsExplained, settles_on}
+use Rattle.law_recovery_walk.proofs.Fitting.{calls_explained}
+use Rattle.law_recovery_walk.proofs.Settling.{settles_on}
 use Rattle.law_recovery_walk.proofs.laws.settles_go_on.Goals as goal
 
 pub returns : goal.returns
@@ -16,9 +13,7 @@ returns g c titles first queue_of prompt timers early made old new hall queue x 
     let flowing : Flowing = record { step = flow.step; partner = flow.partner; later = flow.later; offered = flow.offered; plain = flow.plain; noted = flow.noted } in
     let link = g.C.Carrier.link in
     let steps = g.C.Carrier.steps in
-    let explained = on_whole link steps g.met.C.Carrier.keeps flowing flow.known c.journals_are_lawful.ensures.begins (λ (journal : List Event) world. IsFitWorld link world → IsExplained link journal world)
-    (λ titles timers w journal world explains fit. record { titles = titles; timers = timers; w = w; explains = explains; fit = fit }) titles timers early old calls
-    (calls_fit link steps g.met.C.Carrier.keeps titles timers early old calls) in
+    let explained = calls_explained link steps g.met.C.Carrier.keeps flowing flow.known c.journals_are_lawful.ensures.begins titles timers early old calls in
     settles_on link (InOrder link steps) (keeps_order link steps g.met.C.Carrier.keeps) titles (WaitsBy queue_of) (is_fifo link steps titles (ReachedFrom link steps titles first) (WaitsBy queue_of) prompt)
     c.moved.ensures.going (followed_by flowing flow.known) 0 old made new settles early hall queue x y p
     (record { shows = running.shows; kept = running.kept; have = running.have; rest = running.rest }) explained all followed live live_there

@@ -20,7 +20,5 @@ pub returns-clause-on_wire : goal.returns-clause-on_wire
 returns-clause-on_wire g c =
     let flow = c.flowed.ensures in
     let flowing : Flowing = record { step = flow.step; partner = flow.partner; later = flow.later; offered = flow.offered; plain = flow.plain; noted = flow.noted } in
-    let link = g.C.Carrier.link in
-    let begins = c.journals_are_lawful.ensures.begins in
-    of_whole link g.C.Carrier.steps g.met.C.Carrier.keeps flowing flow.known begins c.whole_calls.ensures (HasKnowingHistory link)
-    (calls_see link g.C.Carrier.steps g.met.C.Carrier.keeps flowing flow.known begins)
+    of_whole g.C.Carrier.link g.C.Carrier.steps g.met.C.Carrier.keeps flowing flow.known c.journals_are_lawful.ensures.begins c.whole_calls.ensures (HasKnowingHistory g.C.Carrier.link)
+    (calls_see g.C.Carrier.link g.C.Carrier.steps g.met.C.Carrier.keeps flowing flow.known c.journals_are_lawful.ensures.begins)

@@ -1,6 +1,6 @@
 use Rattle.std.specs.Prelude.{ℕ, List}
 use Rattle.osi_base.specs.declared.status.Status.TheVariants.{Done}
-use Rattle.osi_commands.specs.Kinds.{AsksOf}
+use Rattle.osi_kinds.specs.Kinds.{AsksOf}
 use Rattle.osi_commands.specs.declared.command.Command.TheVariants.{Script}
 use Rattle.osi_commands.proofs.EachCommand.{kind_is, status_first}
 use Rattle.osi_commands.proofs.each_command.scripts_do.Goals as goal

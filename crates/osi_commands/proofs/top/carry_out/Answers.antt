@@ -8,9 +8,9 @@ use Rattle.law_run.proofs.Served.{serves_where_calm}
 use Rattle.law_run.specs.Bench.{bench_meaning, first_bench}
 use Rattle.capture_decode.specs.Course.{Finishes}
 use Rattle.script_frames.specs.Frames.{AsksForCapture}
-use Rattle.osi_commands.specs.Kinds.{AsksOf}
+use Rattle.osi_kinds.specs.Kinds.{AsksOf}
 use Rattle.osi_commands.proofs.Carrying.{by_command, text_first}
-use Rattle.osi_commands.proofs.Summaries.{summary_complete, summary_exact}
+use Rattle.osi_storm.proofs.Summaries.{summary_complete, summary_exact}
 use Rattle.osi_commands.proofs.top.carry_out.Goals as goal
 
 pub returns-in-Run-clause-does : goal.returns-in-Run-clause-does

@@ -1,7 +1,7 @@
 use Rattle.std.proofs.Common.{ℕ, List, [], ◌∷◌, ◌++◌, ap}
 use Rattle.hex.specs.Hex.{encode_lower}
 use Rattle.script_lines.specs.Tags.{tags_of, name_at}
-use Rattle.script_journal.specs.Told.{octets_text}
+use Rattle.script_journal.specs.Cells.{octets_text}
 use Rattle.script_journal.proofs.Tails.{behind, ended, headed}
 use Rattle.script_journal.proofs.common_lines.write_raw.Goals as goal
 

@@ -1,6 +1,6 @@
 use Rattle.std.proofs.Common.{◌∷◌, []}
 use Rattle.script_lines.specs.Tags.{tags_of}
-use Rattle.script_journal.specs.Told.{octets_text}
+use Rattle.script_journal.specs.Cells.{octets_text}
 use Rattle.script_journal.specs.steps.Written.{piece_text}
 use Rattle.script_journal.proofs.Tails.{told_by}
 use Rattle.script_journal.proofs.end_lines.write_agreed.Goals as goal

@@ -3,7 +3,7 @@ use Rattle.std.specs.Fmt.{decimal}
 use Rattle.std.specs.Prelude.{codes}
 use Rattle.hex.specs.Hex.{encode_lower}
 use Rattle.script_lines.specs.Tags.{tags_of, name_at}
-use Rattle.script_journal.specs.Told.{octets_text}
+use Rattle.script_journal.specs.Cells.{octets_text}
 use Rattle.script_journal.specs.steps.Written.{piece_text}
 use Rattle.script_journal.proofs.Tails.{told_by}
 use Rattle.script_journal.proofs.end_lines.write_incoming.Goals as goal

@@ -1,4 +1,4 @@
-use Rattle.tp4_sending.specs.FlowSender.{acknowledged, at}
+use Rattle.tp4_sending.specs.SendingHalf.{acknowledged, at}
 use Rattle.tp4_conn.specs.Opened.{opened_tpdu}
 use Rattle.tp4_conn.proofs.Openings.{sent_on}
 use Rattle.tp4_conn.proofs.opened.on_tpdu.Goals as goal

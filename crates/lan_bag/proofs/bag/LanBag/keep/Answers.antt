@@ -1,6 +1,7 @@
 use Rattle.std.proofs.Common.{◌≡◌, ◌∙◌, ℕ, ◌+◌, ◌<◌, ◌++◌, ap, ◌∷◌, [], List, length, length-append, Option, Some, refl, sym, subst}
 use Rattle.osi_base.specs.declared.unit.Offered.TheVariants.{Taken as WasTaken}
-use Rattle.lan_bag.specs.Frames.{offered, Frame}
+use Rattle.lan_bag.specs.Frames.{Frame}
+use Rattle.lan_bag.specs.Offers.{offered}
 use Rattle.lan_bag.specs.steps.Openings.{IsFreshAt}
 use Rattle.lan_bag.specs.steps.Wheel.{listed}
 use Rattle.lan_bag.specs.Bag.{Bag}

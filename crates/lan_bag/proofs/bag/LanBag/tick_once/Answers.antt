@@ -34,9 +34,9 @@ invariant_of-self c = record {
   lans_fit = c.self.invariant.lans_fit;
   strays = c.self.invariant.strays;
   fresh = c.fresh_while_live-self-inside.ensures;
-  due = due_same (c.self.inside.clock + 1) c.self.inside.setup.lans (map (kept_at (c.self.inside.clock + 1) c.self.inside.setup.lans) c.self.inside.frames) c.give_up.new.self (turned c.self.inside.wheel) c.turn-due.new.self
+  due = due_same (c.self.inside.clock + 1) c.self.inside.setup.lans (map (kept_at (c.self.inside.clock + 1) c.self.inside.setup.lans) c.self.inside.frames) c.give_up.new.self (turned c.self.inside.wheel) c.keep_room.new.self
       (due_ticked c.self.inside.clock c.self.inside.setup.lans c.self.inside.frames c.self.inside.wheel c.self.invariant.due)
-      c.give_up.ensures c.turn-due.ensures.rest;
+      c.give_up.ensures (c.keep_room.ensures ∙ c.turn-due.ensures.rest);
   indexed = λ wanted. indexed_same (contains nat_cmp c.delist.new.self.codes) (map (kept_at (c.self.inside.clock + 1) c.self.inside.setup.lans) c.self.inside.frames) c.give_up.new.self c.give_up.ensures
       (c.delist.ensures.codes (sym c.delist.ensures.wanted ∙ wanted)
       (indexed_ticked (contains nat_cmp c.self.inside.index.codes) (c.self.inside.clock + 1) c.self.inside.setup.lans c.self.inside.frames (c.self.invariant.indexed (sym c.delist.ensures.wanted ∙ wanted))));

@@ -1,6 +1,6 @@
 use Rattle.std.proofs.Common.{◌∙◌, ap, is_some, sym}
 use Rattle.tp4_entity.proofs.Dues.{popped_id, popped_later, popped_none}
-use Rattle.tp4_entity.proofs.Ticks.{none_first, takes_behind, takes_due, takes_dues, takes_entity, takes_fewer, takes_from, takes_later, takes_on, takes_step, takes_there, ticks_none}
+use Rattle.tp4_entity.proofs.Ticks.{none_first, takes_behind, takes_due, takes_fewer, takes_from, takes_kept, takes_later, takes_on, takes_step, takes_there, ticks_none}
 use Rattle.tp4_entity.proofs.entity.TpEntity.tick_next.Goals as goal
 
 pub returns-in_default-clause-due : goal.returns-in_default-clause-due
@@ -35,24 +35,16 @@ pub tick_place-requires-clause-id : goal.tick_place-requires-clause-id
 tick_place-requires-clause-id g c = popped_id c.args.now c.in-Some.place c.self.inside.due c.pop.new.self c.self.inside.ends.items c.self.invariant.1 c.in-Some.ensures
 
 pub invariant_of-self-in_err-tick_place : goal.invariant_of-self-in_err-tick_place
-invariant_of-self-in_err-tick_place g c = (
-  takes_entity _ c.args.self.now c.args.now c.in-Some.place c.self.inside.due c.pop.new.self c.index_mut.result.now
-      (record { same = c.self.view_is ∙ c.set_clock.ensures; from = c.requires.due; dues_are = c.self.invariant.1; pops = c.in-Some.ensures; read = c.index_mut.ensures.value }) c.self.invariant.0
-      c.tick_place.new.place c.tick_place.ensures.kept,
-  takes_dues _ c.args.self.now c.args.now c.in-Some.place c.self.inside.due c.pop.new.self c.index_mut.result.now
-      (record { same = c.self.view_is ∙ c.set_clock.ensures; from = c.requires.due; dues_are = c.self.invariant.1; pops = c.in-Some.ensures; read = c.index_mut.ensures.value })
-      c.tick_place.new.place c.tick_place.new.due c.tick_place.ensures.due,
-)
+invariant_of-self-in_err-tick_place g c =
+    takes_kept _ c.args.self.now c.args.now c.in-Some.place c.self.inside.due c.pop.new.self c.index_mut.result.now
+    (record { same = c.self.view_is ∙ c.set_clock.ensures; from = c.requires.due; dues_are = c.self.invariant.1; pops = c.in-Some.ensures; read = c.index_mut.ensures.value }) c.self.invariant.0
+    c.tick_place.new.place c.tick_place.ensures.kept c.tick_place.new.due c.tick_place.ensures.due
 
 pub invariant_of-self-2 : goal.invariant_of-self-2
-invariant_of-self-2 g c = (
-  takes_entity _ c.args.self.now c.args.now c.in-Some.place c.self.inside.due c.pop.new.self c.index_mut.result.now
-      (record { same = c.self.view_is ∙ c.set_clock.ensures; from = c.requires.due; dues_are = c.self.invariant.1; pops = c.in-Some.ensures; read = c.index_mut.ensures.value }) c.self.invariant.0
-      c.tick_place.new.place c.tick_place.ensures.kept,
-  takes_dues _ c.args.self.now c.args.now c.in-Some.place c.self.inside.due c.pop.new.self c.index_mut.result.now
-      (record { same = c.self.view_is ∙ c.set_clock.ensures; from = c.requires.due; dues_are = c.self.invariant.1; pops = c.in-Some.ensures; read = c.index_mut.ensures.value })
-      c.tick_place.new.place c.tick_place.new.due c.tick_place.ensures.due,
-)
+invariant_of-self-2 g c =
+    takes_kept _ c.args.self.now c.args.now c.in-Some.place c.self.inside.due c.pop.new.self c.index_mut.result.now
+    (record { same = c.self.view_is ∙ c.set_clock.ensures; from = c.requires.due; dues_are = c.self.invariant.1; pops = c.in-Some.ensures; read = c.index_mut.ensures.value }) c.self.invariant.0
+    c.tick_place.new.place c.tick_place.ensures.kept c.tick_place.new.due c.tick_place.ensures.due
 
 pub returns-clause-due : goal.returns-clause-due
 returns-clause-due g c =

@@ -2,24 +2,32 @@ use Rattle.std.proofs.Common.{◌≡◌, ◌∙◌, ◌==◌, ◌<◌, ◌*◌, 
 use Rattle.std.proofs.lemmas.Bool.Decides.{nat_tests}
 use Rattle.tp4_number.specs.Number.{ahead}
 use Rattle.tp4_number.specs.Window.{placed}
+use Rattle.tp4_number.specs.Receiver.{judged}
+use Rattle.tp4_number.specs.declared.got.Got.{Got}
 use Rattle.tp4_number.specs.declared.got.Got.TheVariants.{Kept, TooLarge}
 use Rattle.tp4_number.specs.declared.piece.Piece.{Piece}
-use Rattle.tp4_flow.specs.Half.{Half, block_in, ak}
+use Rattle.tp4_flow.specs.ReceivingHalf.{Half, block_in, ak}
 use Rattle.tp4_flow.specs.Told.{Told}
+use Rattle.tp4_flow.specs.contracts.receiving.Receiving.{the_view}
 use Rattle.tp4_flow.specs.steps.Shown.{Shows}
 use Rattle.tp4_flow.proofs.Arrivals.{Comes, Takes, comes_other, kept_large, kept_shown, kept_ahead, with_held}
 use Rattle.tp4_flow.proofs.receiving.Receiving.on_dt.Goals as goal
 use Rattle.tp4_flow.proofs.receiving.Receiving.on_dt.Goals.{Then-branch, In_ok-acknowledge-in-Kept, In_ok-acknowledge-in_default, else-ahead-eq0-via-then-ahead-eq0+in_ok-show-in-Kept+else-branch, else-ahead-eq0-via-else-ahead-eq0}
 
+-- a DT at that distance comes to a half that shows as this one
+come : (viewed half : Half) (w d : ℕ) (got : Got) → viewed ≡ half → viewed.receiver.expected < 4 * block_in viewed → d ≡ ahead (block_in viewed) viewed.receiver.expected w
+    → judged (block_in half) half.receiver.inbox d ≡ got → Comes half w d got
+come viewed half w d got same low at is = record {
+  low = subst (λ (h : Half). h.receiver.expected < 4 * block_in h) same low;
+  at = at ∙ ap (λ (h : Half). ahead (block_in h) h.receiver.expected w) same;
+  is = is;
+}
+
 large : (c : Then-branch) → Takes c.args.self.now c.args.wire (record { last = c.args.last; octets = c.args.octets.now }) TooLarge c.show.new.self c.args.out.now c.show.new.out
 large c =
-    let viewed : Half = record { rules = c.self.inside.rules; receiver = record { expected = c.self.inside.expected; urgent = c.self.inside.urgent; inbox = record { credit = c.self.inside.credit; subsequence = c.self.inside.subsequence; held = c.self.inside.window } } } in
+    let viewed = the_view c.self.inside in
     let piece : Piece = record { last = c.args.last; octets = c.args.octets.now } in
-    let comes : Comes c.args.self.now c.args.wire c.distance-ahead.result Kept = record {
-      low = subst (λ (h : Half). h.receiver.expected < 4 * block_in h) c.self.view_is c.self.invariant.expected_low;
-      at = c.distance-ahead.ensures ∙ ap (λ (h : Half). ahead (block_in h) h.receiver.expected c.args.wire) c.self.view_is;
-      is = sym c.judge.ensures ∙ c.in-Kept.is;
-    } in
+    let comes = come viewed c.args.self.now c.args.wire c.distance-ahead.result Kept c.self.view_is c.self.invariant.expected_low c.distance-ahead.ensures (sym c.judge.ensures ∙ c.in-Kept.is) in
     let zero : c.distance-ahead.result ≡ 0 = omega arith in
     let window : c.place.new.self ≡ placed c.self.inside.window c.distance-ahead.result piece = c.place.ensures ∙ ap (λ (o : List ℕ). placed c.self.inside.window c.distance-ahead.result (record { last = c.args.last; octets = o })) c.in_ok-octets-in-Kept.ensures in
     let put : with_held viewed c.place.new.self ≡ with_held c.args.self.now (placed c.args.self.now.receiver.inbox.held c.distance-ahead.result piece) =
@@ -30,13 +38,9 @@ large c =
 
 taken : (c : In_ok-acknowledge-in-Kept) → Takes c.args.self.now c.args.wire (record { last = c.args.last; octets = c.args.octets.now }) Kept c.else-ahead-eq0.self c.args.out.now c.acknowledge.new.out
 taken c =
-    let viewed : Half = record { rules = c.self.inside.rules; receiver = record { expected = c.self.inside.expected; urgent = c.self.inside.urgent; inbox = record { credit = c.self.inside.credit; subsequence = c.self.inside.subsequence; held = c.self.inside.window } } } in
+    let viewed = the_view c.self.inside in
     let piece : Piece = record { last = c.args.last; octets = c.args.octets.now } in
-    let comes : Comes c.args.self.now c.args.wire c.distance-ahead.result Kept = record {
-      low = subst (λ (h : Half). h.receiver.expected < 4 * block_in h) c.self.view_is c.self.invariant.expected_low;
-      at = c.distance-ahead.ensures ∙ ap (λ (h : Half). ahead (block_in h) h.receiver.expected c.args.wire) c.self.view_is;
-      is = sym c.judge.ensures ∙ c.in-Kept.is;
-    } in
+    let comes = come viewed c.args.self.now c.args.wire c.distance-ahead.result Kept c.self.view_is c.self.invariant.expected_low c.distance-ahead.ensures (sym c.judge.ensures ∙ c.in-Kept.is) in
     let window : c.place.new.self ≡ placed c.self.inside.window c.distance-ahead.result piece = c.place.ensures ∙ ap (λ (o : List ℕ). placed c.self.inside.window c.distance-ahead.result (record { last = c.args.last; octets = o })) c.in_ok-octets-in-Kept.ensures in
     let put : with_held viewed c.place.new.self ≡ with_held c.args.self.now (placed c.args.self.now.receiver.inbox.held c.distance-ahead.result piece) =
     ap (with_held viewed) window ∙ ap (λ (h : Half). with_held h (placed h.receiver.inbox.held c.distance-ahead.result piece)) c.self.view_is in
@@ -62,11 +66,7 @@ taken c =
 other : (c : In_ok-acknowledge-in_default) → Takes c.args.self.now c.args.wire (record { last = c.args.last; octets = c.args.octets.now }) c.judge.result c.args.self.now c.args.out.now c.acknowledge-in_default.new.out
 other c =
     comes_other c.args.self.now c.args.wire c.distance-ahead.result (record { last = c.args.last; octets = c.args.octets.now }) c.judge.result c.args.out.now c.acknowledge-in_default.new.out
-    (record {
-      low = subst (λ (h : Half). h.receiver.expected < 4 * block_in h) c.self.view_is c.self.invariant.expected_low;
-      at = c.distance-ahead.ensures ∙ ap (λ (h : Half). ahead (block_in h) h.receiver.expected c.args.wire) c.self.view_is;
-      is = sym c.judge.ensures;
-    })
+    (come (the_view c.self.inside) c.args.self.now c.args.wire c.distance-ahead.result c.judge.result c.self.view_is c.self.invariant.expected_low c.distance-ahead.ensures (sym c.judge.ensures))
     (λ e. c.in_default.not-Kept e) c.in_ok-acknowledge-in_default.ensures.ok
 
 pub returns-then-branch-clause-got : goal.returns-then-branch-clause-got

@@ -1,7 +1,7 @@
 use Rattle.std.proofs.Common.{◌≡◌, ◌∙◌, ◌+◌, ◌*◌, ◌%◌, ◌==◌, ◌∷◌, ◌++◌, [], List, sym, ap, subst, arith, true, false, ℕ}
 use Rattle.std.proofs.lemmas.Bool.Decides.{nat_tests}
 use Rattle.tp4_number.specs.Number.{wire}
-use Rattle.tp4_flow.specs.Half.{Half, block_in, ea}
+use Rattle.tp4_flow.specs.ReceivingHalf.{Half, block_in, ea}
 use Rattle.tp4_flow.specs.Told.{Told}
 use Rattle.tp4_flow.specs.declared.step.What.TheVariants as whats
 use Rattle.tpdu.specs.declared.service.EndTold.TheVariants.{Urgent}

@@ -1,6 +1,6 @@
 use Rattle.std.proofs.Common.{◌≡◌, ◌≤◌, ◌+◌, ◌-◌, length, take, drop, min, max, sym, ◌∙◌, ap, subst, arith, true}
 use Rattle.circular_buffer.specs.Buffer.{Buffer}
-use Rattle.tp4_sending.specs.FlowSender.{FlowSender, acknowledged_to, is_taken}
+use Rattle.tp4_sending.specs.SendingHalf.{FlowSender, acknowledged_to, is_taken}
 use Rattle.tp4_sending.specs.Kept.{IsSending, most_granted}
 use Rattle.tp4_sending.specs.contracts.sending.Sending.{the_view}
 use Rattle.tp4_sending.specs.declared.tries.Tries.{Tries}

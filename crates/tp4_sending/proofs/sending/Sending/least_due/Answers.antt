@@ -1,6 +1,6 @@
 use Rattle.std.proofs.Common.{subst}
 use Rattle.std.specs.List.{All}
-use Rattle.tp4_sending.specs.FlowSender.{FlowSender}
+use Rattle.tp4_sending.specs.SendingHalf.{FlowSender}
 use Rattle.tp4_sending.specs.Kept.{IsTried}
 use Rattle.tp4_sending.proofs.Leasts.{tried_back}
 use Rattle.tp4_sending.proofs.sending.Sending.least_due.Goals as goal

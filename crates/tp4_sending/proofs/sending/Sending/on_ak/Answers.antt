@@ -1,6 +1,6 @@
 use Rattle.std.proofs.Common.{◌≡◌, Bool, true, false, refl, sym, ◌∙◌, subst}
 use Rattle.tp4_number.specs.Number.{near}
-use Rattle.tp4_sending.specs.FlowSender.{FlowSender, Sends, Keeps, at, block_in, is_taken, acknowledged_to, acknowledged}
+use Rattle.tp4_sending.specs.SendingHalf.{FlowSender, Sends, Keeps, at, block_in, is_taken, acknowledged_to, acknowledged}
 use Rattle.tp4_sending.proofs.Goings.{keeps_on}
 use Rattle.tp4_sending.proofs.Calls.{ak_done, ak_left, ak_newer, kept_at}
 use Rattle.tp4_sending.proofs.sending.Sending.on_ak.Goals as goal

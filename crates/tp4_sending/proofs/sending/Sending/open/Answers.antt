@@ -1,6 +1,6 @@
 use Rattle.std.proofs.Common.{◌≡◌, true, ◌∙◌, ap, subst}
 use Rattle.std.specs.Prelude.{OnOk}
-use Rattle.tp4_sending.specs.FlowSender.{FlowSender, Sends, at, new_sends}
+use Rattle.tp4_sending.specs.SendingHalf.{FlowSender, Sends, at, new_sends}
 use Rattle.tp4_sending.proofs.sending.Sending.open.Goals as goal
 
 pub returns : goal.returns

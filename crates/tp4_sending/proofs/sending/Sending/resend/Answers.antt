@@ -1,5 +1,5 @@
 use Rattle.std.proofs.Common.{◌<◌, length, ap, arith}
-use Rattle.tp4_sending.specs.FlowSender.{FlowSender}
+use Rattle.tp4_sending.specs.SendingHalf.{FlowSender}
 use Rattle.tp4_sending.proofs.Goings.{keeps_on}
 use Rattle.tp4_sending.proofs.Resendings.{resend_on}
 use Rattle.tp4_sending.proofs.sending.Sending.resend.Goals as goal

@@ -1,4 +1,4 @@
-use Rattle.tp4_sending.specs.FlowSender.{Sends, Keeps}
+use Rattle.tp4_sending.specs.SendingHalf.{Sends, Keeps}
 use Rattle.tp4_sending.proofs.Resendings.{done_to}
 use Rattle.tp4_sending.proofs.sending.Sending.resend.Given as goal
 

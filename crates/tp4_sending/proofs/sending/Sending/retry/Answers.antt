@@ -2,7 +2,7 @@ use Rattle.std.proofs.Common.{◌+◌, ◌<◌, ◌≤◌, length, sym, ◌∙�
 use Rattle.std.specs.Prelude.{slice_set}
 use Rattle.circular_buffer.specs.Buffer.{Buffer}
 use Rattle.tp4_number.specs.declared.blocks.Blocks.{Blocks}
-use Rattle.tp4_sending.specs.FlowSender.{FlowSender}
+use Rattle.tp4_sending.specs.SendingHalf.{FlowSender}
 use Rattle.tp4_sending.specs.contracts.sending.Sending.{the_view}
 use Rattle.tp4_sending.specs.declared.tries.Tries.{Tries}
 use Rattle.tp4_sending.proofs.Counts.{retried_put}

@@ -1,7 +1,7 @@
 use Rattle.std.proofs.Common.{◌≡◌, ◌∙◌, ap, ◌<◌, ◌≤◌, List, [], ◌∷◌, ◌++◌, true, sym, subst, arith}
 use Rattle.circular_buffer.specs.Buffer.{Buffer}
 use Rattle.tp4_number.specs.declared.blocks.Blocks.{Blocks}
-use Rattle.tp4_sending.specs.FlowSender.{FlowSender, has_next, rule_allows}
+use Rattle.tp4_sending.specs.SendingHalf.{FlowSender, has_next, rule_allows}
 use Rattle.tp4_sending.specs.Pieces.{once}
 use Rattle.tp4_sending.specs.contracts.sending.Sending.{the_view}
 use Rattle.tp4_sending.specs.declared.tries.Tries.{Tries}

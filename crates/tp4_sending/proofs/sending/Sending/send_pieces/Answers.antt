@@ -1,6 +1,6 @@
 use Rattle.std.proofs.Common.{rules, ◌∙◌, ◌≡◌, sym, true, false}
 use Rattle.std.proofs.lemmas.Result.{on_ok_weaker}
-use Rattle.tp4_sending.specs.FlowSender.{has_next, rule_allows}
+use Rattle.tp4_sending.specs.SendingHalf.{has_next, rule_allows}
 use Rattle.tp4_sending.proofs.Goings.{going_on, going_done, going_held, keeps_on}
 use Rattle.tp4_sending.proofs.sending.Sending.send_pieces.Goals as goal
 

@@ -1,5 +1,5 @@
 use Rattle.std.proofs.Common.{◌-◌}
-use Rattle.tp4_sending.specs.FlowSender.{Keeps}
+use Rattle.tp4_sending.specs.SendingHalf.{Keeps}
 use Rattle.tp4_sending.specs.Pieces.{end_of}
 use Rattle.tp4_sending.proofs.Goings.{Going}
 use Rattle.tp4_sending.proofs.sending.Sending.send_pieces.Given as goal

@@ -1,6 +1,6 @@
 use Rattle.std.proofs.Common.{◌≡◌, [], ◌∷◌, ◌++◌, ◌∙◌, ap, subst}
 use Rattle.std.specs.Prelude.{OnOk}
-use Rattle.tp4_sending.specs.FlowSender.{FlowSender, Sends, Keeps, at, new_sends}
+use Rattle.tp4_sending.specs.SendingHalf.{FlowSender, Sends, Keeps, at, new_sends}
 use Rattle.tp4_sending.proofs.Goings.{keeps_on}
 use Rattle.tp4_sending.proofs.Calls.{kept_at}
 use Rattle.tp4_sending.proofs.sending.Sending.submit.Goals as goal

@@ -1,7 +1,7 @@
 use Rattle.std.proofs.Common.{◌≡◌, Bool, if◌then◌else◌, sym, ◌∙◌, ap, subst}
 use Rattle.tp4_flow.specs.declared.rules.Life.{Life}
 use Rattle.tp4_flow.specs.declared.rules.Life.TheVariants.{Goes, Exhausted}
-use Rattle.tp4_sending.specs.FlowSender.{FlowSender, Sends, life_of, resends, resends_urgent, new_sends, then_sends, ticked, ticked_as}
+use Rattle.tp4_sending.specs.SendingHalf.{FlowSender, Sends, life_of, resends, resends_urgent, new_sends, then_sends, ticked, ticked_as}
 use Rattle.tp4_sending.proofs.Thens.{then_done}
 use Rattle.tp4_sending.proofs.sending.Sending.tick.Goals as goal
 

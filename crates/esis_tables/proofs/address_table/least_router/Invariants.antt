@@ -1,6 +1,0 @@
-use Rattle.std.proofs.Common.{take}
-use Rattle.esis_tables.specs.steps.Least.{IsLeastRouter}
-use Rattle.esis_tables.proofs.address_table.least_router.Given as goal
-
-abbrev pub invariant-loop-place : goal.invariant-loop-place
-invariant-loop-place l = IsLeastRouter (take l.place l.rows.items) l.now l.least

@@ -1,5 +1,0 @@
-use Rattle.osi_commands.proofs.Generated.{generated_run}
-use Rattle.osi_commands.proofs.laws.generated_scripts_run.Goals as goal
-
-pub returns : goal.returns
-returns c = generated_run

@@ -1,0 +1,4 @@
+pub mod Courses
+pub mod Generated
+pub mod Storming
+pub mod Summaries
