@@ -5,7 +5,7 @@ use Rattle.std.specs.Prelude.{filter, map, slice_index, nat_eq, IfOk, IfErr, unw
 use Rattle.std.specs.List.{list_any}
 use Rattle.std.specs.Cmp.Lexicographic.{pointwise}
 use Rattle.pdu_parts.specs.Parameter.{Parameter, parameters_in, spelled}
-use Rattle.pdu_parts.specs.steps.Reading.{◌>>=◌}
+use Rattle.pdu_parts.proofs.Readings.{◌>>=◌}
 use Rattle.tpdu.specs.declared.fault.TpduFault.{TpduFault}
 use Rattle.tpdu.specs.declared.kind.Kind.{Kind}
 use Rattle.tpdu.specs.declared.kind.Kind.TheVariants.{Cr}

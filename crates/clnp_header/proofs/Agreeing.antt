@@ -13,7 +13,7 @@ use Rattle.pdu_parts.specs.Number.{number_at}
 use Rattle.pdu_parts.specs.Checksum.{checksum_in}
 use Rattle.pdu_parts.specs.Field.{address_at}
 use Rattle.clnp_options.specs.declared.reason.Reason.TheVariants.{HeaderSyntax, IncompletePdu, IncorrectChecksum, UnsupportedVersion}
-use Rattle.pdu_parts.specs.steps.Reading.{unless, ◌>>=◌, found_or}
+use Rattle.pdu_parts.proofs.Readings.{unless, ◌>>=◌, found_or}
 use Rattle.clnp_header.specs.steps.Reading.{header_read, checksum_read, flags_read, address_read, segment_read, segment_octets, options_read, body_read, placed_read, pdu_read}
 use Rattle.clnp_header.proofs.Stages.{from_placed, from_body, from_options, from_segment, from_source, from_destination, from_flags, from_checksum, in_stages, FlagsFound, ErFound, flags_found, NoSegment, SegmentFound, segment_found, body_found, address_found, header_found}
 

@@ -11,7 +11,7 @@ use Rattle.pdu_parts.specs.Front.{Apart, BeginsWith, FrontOrFault, OneFront, One
 use Rattle.clnp_header.specs.Writing.{header_length}
 use Rattle.clnp_header.specs.Values.{value_of}
 use Rattle.clnp_header.specs.Faults.{IsPduFault, first_fault}
-use Rattle.pdu_parts.specs.steps.Reading.{Gives}
+use Rattle.pdu_parts.proofs.Readings.{Gives}
 use Rattle.clnp_header.specs.steps.Reading.{pdu_read}
 use Rattle.clnp_header.proofs.Again.{pdu_again}
 use Rattle.clnp_header.proofs.Agreeing.{fault_of, pdu_agrees}

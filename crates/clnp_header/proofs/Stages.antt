@@ -23,7 +23,7 @@ use Rattle.pdu_parts.specs.Checksum.{checksum_in}
 use Rattle.pdu_parts.specs.Field.{IsAddress, field, address_at}
 use Rattle.clnp_header.specs.Faults.{with_report}
 use Rattle.std.proofs.lemmas.Option.{same_Some}
-use Rattle.pdu_parts.specs.steps.Reading.{unless, ◌>>=◌, found_or}
+use Rattle.pdu_parts.proofs.Readings.{unless, ◌>>=◌, found_or}
 use Rattle.clnp_header.specs.steps.Reading.{header_read, checksum_read, flags_read, address_read, segment_read, segment_octets, options_read, body_read, placed_read, pdu_read}
 
 -- ---- the stages

@@ -3,7 +3,7 @@
 ghost use Rattle.std.specs.Prelude.{◌≡◌, ◌+◌, ◌≤◌, ℕ, List, length, take, IfOk, IfErr, IsOkAnd};
 ghost use Rattle.pdu_parts.specs.Front.{BeginsWith};
 ghost use Rattle.pdu_parts.specs.Number.{number_at};
-ghost use Rattle.pdu_parts.specs.steps.Reading.{Gives};
+ghost use Rattle.pdu_parts.proofs.Readings.{Gives};
 ghost use Rattle.clnp_options.specs.Options.{listed};
 ghost use Rattle.clnp_header.specs.declared.pdu.Pdu.{Pdu};
 ghost use Rattle.clnp_header.specs.Faults.{IsPduFault};

@@ -1,7 +1,7 @@
 -- What a reader that gives the reading of its octets owes its callers: the grammar both ways, and the first fault; and the laws of both.
 use Rattle.std.proofs.Common.{◌≡◌, ◌⊎◌, ℕ, List, Result, Ok, Err, refl, sym, ap, ◌∙◌, inl, inr}
 use Rattle.std.specs.Prelude.{IfOk, IfErr, IsOkAnd}
-use Rattle.pdu_parts.specs.steps.Reading.{Gives}
+use Rattle.pdu_parts.proofs.Readings.{Gives}
 use Rattle.cltp.specs.declared.fault.UdFault.{UdFault}
 use Rattle.cltp.specs.Faults.{IsUdFault}
 use Rattle.cltp.specs.Ud.{Ud, IsUd}

@@ -3,7 +3,7 @@
 use Rattle.std.proofs.Common.{◌≡◌, ℕ, ◌+◌, ◌<◌, List, [], ◌∷◌, length, Option, Some, None, Result, Ok, Err, refl, ap, subst, arith}
 use Rattle.pdu_parts.specs.FirstFault.{first_failing}
 use Rattle.pdu_parts.specs.Parameter.{Parameter, front_parameter, parameters_in, left_in}
-use Rattle.pdu_parts.specs.steps.Reading.{unless}
+use Rattle.pdu_parts.proofs.Readings.{unless}
 use Rattle.tpdu.proofs.Checks.{option_or-assoc, option_or-none}
 use Rattle.tpdu.proofs.Parts.{some_left}
 use Rattle.tpdu.proofs.Splits.{parameters-front, parameters-none}

@@ -4,7 +4,7 @@ use Rattle.std.specs.Prelude.{is_some, is_none, slice_index, unwrap_or, ⊤}
 use Rattle.osi_base.specs.Fletcher.{is_sealed}
 use Rattle.pdu_parts.specs.FirstFault.{must, first_failing}
 use Rattle.pdu_parts.specs.Parameter.{parameters_in, left_in}
-use Rattle.pdu_parts.specs.steps.Reading.{◌>>=◌}
+use Rattle.pdu_parts.proofs.Readings.{◌>>=◌}
 use Rattle.tpdu.specs.Faults.{indicator, header, behind}
 use Rattle.tpdu.specs.Parameters.{last_value, sum_place}
 use Rattle.tpdu.proofs.FaultOrder.{at_least, fault_of, guard_fault, is_length, unless_fault}

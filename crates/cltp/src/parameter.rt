@@ -2,7 +2,7 @@
 
 ghost use Rattle.std.specs.Prelude.{◌≡◌, ◌+◌, ◌<◌, ◌^◌, length, IfOk};
 ghost use Rattle.pdu_parts.specs.Lent.{parameter_of};
-ghost use Rattle.pdu_parts.specs.steps.Reading.{Gives};
+ghost use Rattle.pdu_parts.proofs.Readings.{Gives};
 ghost use Rattle.cltp.specs.Parameters.{lengths_of, trouble};
 ghost use Rattle.cltp.specs.steps.Reading.{checked, parameter_at, values_view, with_parameter};
 

@@ -1,7 +1,7 @@
 //! Reading a UD (X.234, unit data TPDU).
 
 ghost use Rattle.std.specs.Prelude.{◌≡◌, ◌≤◌, length, Err, IfOk, IfErr, IsOkAnd};
-ghost use Rattle.pdu_parts.specs.steps.Reading.{Gives};
+ghost use Rattle.pdu_parts.proofs.Readings.{Gives};
 ghost use Rattle.cltp.specs.Faults.{IsUdFault};
 ghost use Rattle.cltp.specs.Ud.{Ud, IsUd, ud_of};
 ghost use Rattle.cltp.specs.declared.fault.UdFault.{UdFault as Fault};

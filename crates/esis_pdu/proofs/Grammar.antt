@@ -8,7 +8,7 @@ use Rattle.pdu_parts.specs.Checksum.{IsChecksum}
 use Rattle.pdu_parts.specs.Front.{Apart, BeginsWith, FrontOrFault, OneFront, OneValue}
 use Rattle.pdu_parts.specs.Number.{number_at}
 use Rattle.pdu_parts.specs.Parameter.{left_in, parameters_in, spelled}
-use Rattle.pdu_parts.specs.steps.Reading.{Gives}
+use Rattle.pdu_parts.proofs.Readings.{Gives}
 use Rattle.pdu_parts.proofs.Parameters.{reads_parameters}
 use Rattle.esis_pdu.specs.declared.fault.EsisFault.{EsisFault}
 use Rattle.esis_pdu.specs.declared.hello.Hello.{Hello}

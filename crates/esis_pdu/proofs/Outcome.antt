@@ -5,7 +5,7 @@ use Rattle.std.specs.Option.{is_some}
 use Rattle.pdu_parts.specs.Checksum.{checksum_in}
 use Rattle.pdu_parts.specs.FirstFault.{first_failing, must, or_else}
 use Rattle.pdu_parts.specs.Parameter.{left_in}
-use Rattle.pdu_parts.specs.steps.Reading.{◌>>=◌, found_or}
+use Rattle.pdu_parts.proofs.Readings.{◌>>=◌, found_or}
 use Rattle.esis_pdu.specs.declared.fault.EsisFault.{EsisFault}
 use Rattle.esis_pdu.specs.declared.fault.EsisFault.TheVariants as faults
 use Rattle.esis_pdu.specs.Faults.{first_fault, front, has_options, indicator, is_length, is_type, is_version, parts_in, steps, type_in}

@@ -4,7 +4,7 @@ ghost use Rattle.std.specs.Prelude.{◌≡◌, ◌≤◌, ◌%◌, List, ℕ, le
 ghost use Rattle.std.specs.Option.{is_some};
 ghost use Rattle.pdu_parts.specs.Front.{BeginsWith};
 ghost use Rattle.pdu_parts.specs.Number.{number_at};
-ghost use Rattle.pdu_parts.specs.steps.Reading.{Gives};
+ghost use Rattle.pdu_parts.proofs.Readings.{Gives};
 ghost use Rattle.esis_pdu.specs.declared.fault.EsisFault.{EsisFault};
 ghost use Rattle.esis_pdu.specs.Addresses.{counted_at, esh_at, ish_at, rd_at, snpa_at, title_at};
 ghost use Rattle.esis_pdu.specs.Faults.{IsEsisFault, is_version, type_in};

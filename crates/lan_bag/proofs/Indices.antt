@@ -12,10 +12,10 @@ use Rattle.std.proofs.lemmas.Option.{slice_get_within}
 use Rattle.std.proofs.lemmas.Map.Views.{any-filter_same}
 use Rattle.osi_base.specs.declared.unit.Unit.{Unit as CarriedUnit}
 use Rattle.nsap.specs.declared.port.Port.{Port}
-use Rattle.lan_bag.specs.declared.setup.Lan.{Lan}
-use Rattle.lan_bag.specs.Rows.{same_port}
-use Rattle.lan_bag.specs.Frames.{Frame, kept, kept_at, is_live, is_of, carries_live, marked, marked_frame, marked_at}
-use Rattle.lan_bag.specs.steps.Places.{push_cases, set_same, set_other, kept_places, kept_was}
+use Rattle.lan_step.specs.declared.row.Lan.{Lan}
+use Rattle.lan_step.specs.Rows.{same_port}
+use Rattle.lan_step.specs.Frames.{Frame, kept, kept_at, is_live, is_of, carries_live, marked, marked_frame, marked_at}
+use Rattle.lan_step.proofs.Places.{push_cases, set_same, set_other, kept_places, kept_was}
 use Rattle.lan_bag.specs.steps.Index.{AreIndexed, AreIndexedTo, carries_at, code_of, key_of, sum_from}
 use Rattle.lan_bag.proofs.Wheels.{kept_live, past_last}
 

@@ -9,11 +9,11 @@ use Rattle.std.proofs.lemmas.List.Elements.{All-nil, All-cons, All-head, All-tai
 use Rattle.std.proofs.lemmas.Map.Views.{any-filter_same}
 use Rattle.osi_base.specs.declared.unit.Picked.TheVariants.{Taken as WasPicked, NotThere, NotOurs}
 use Rattle.nsap.specs.declared.port.Port.{Port}
-use Rattle.lan_bag.specs.declared.setup.PortRow.{PortRow}
-use Rattle.lan_bag.specs.declared.setup.Lan.{Lan}
-use Rattle.lan_bag.specs.Rows.{same_port, same_snpa, sender_of, is_on, has_sent}
-use Rattle.lan_bag.specs.Receivers.{goes_to, is_one_of, is_named_by}
-use Rattle.lan_bag.specs.Frames.{Frame, has_taken, is_live, is_taken}
+use Rattle.lan_step.specs.declared.row.PortRow.{PortRow}
+use Rattle.lan_step.specs.declared.row.Lan.{Lan}
+use Rattle.lan_step.specs.Rows.{same_port, same_snpa, sender_of, is_on, has_sent}
+use Rattle.lan_step.specs.Receivers.{goes_to, is_one_of, is_named_by}
+use Rattle.lan_step.specs.Frames.{Frame, has_taken, is_live, is_taken}
 use Rattle.lan_bag.specs.steps.Openings.{is_free_to, is_open_to, is_open_at, IsLeastAt}
 use Rattle.lan_bag.proofs.Openings.{IsLeastAmong, any_less, none_each, open_nowhere}
 use Rattle.lan_bag.specs.steps.Setting.{AreOfLans, rows_on}

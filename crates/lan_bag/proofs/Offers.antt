@@ -5,11 +5,11 @@ use Rattle.std.proofs.lemmas.List.Elements.{All-head, All-tail}
 use Rattle.osi_base.specs.declared.unit.Unit.{Unit as CarriedUnit}
 use Rattle.osi_base.specs.declared.unit.Offered.TheVariants.{Taken as WasTaken}
 use Rattle.nsap.specs.declared.port.Port.{Port}
-use Rattle.lan_bag.specs.declared.setup.Lan.{Lan}
-use Rattle.lan_bag.specs.declared.setup.PortRow.{PortRow}
-use Rattle.lan_bag.specs.Rows.{bound_on, room_in, room_on, IsLan}
-use Rattle.lan_bag.specs.Frames.{Frame}
-use Rattle.lan_bag.specs.Offers.{offered}
+use Rattle.lan_step.specs.declared.row.Lan.{Lan}
+use Rattle.lan_step.specs.declared.row.PortRow.{PortRow}
+use Rattle.lan_step.specs.Rows.{bound_on, room_in, room_on, IsLan}
+use Rattle.lan_step.specs.Frames.{Frame}
+use Rattle.lan_step.specs.Offers.{offered}
 
 rooms_fit : (lans : List Lan) (lan : ℕ) → All IsLan lans → room_in (slice_get lans lan) ≤ 1497
 rooms_fit [] lan h = omega arith

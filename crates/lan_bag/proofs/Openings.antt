@@ -8,13 +8,13 @@ use Rattle.std.proofs.lemmas.List.{length-map, length-set}
 use Rattle.std.proofs.lemmas.List.Elements.{All-nil, All-cons, All-head, All-tail, All-more}
 use Rattle.osi_base.specs.declared.unit.Picked.TheVariants.{Late}
 use Rattle.nsap.specs.declared.port.Port.{Port}
-use Rattle.lan_bag.specs.declared.setup.Lan.{Lan}
-use Rattle.lan_bag.specs.declared.setup.PortRow.{PortRow}
-use Rattle.lan_bag.specs.Receivers.{is_one_of, goes_to}
-use Rattle.lan_bag.specs.Frames.{Frame, kept, frame_of, has_taken, is_live, is_taken, picked_of, kept_at, marked, marked_at, marked_frame}
+use Rattle.lan_step.specs.declared.row.Lan.{Lan}
+use Rattle.lan_step.specs.declared.row.PortRow.{PortRow}
+use Rattle.lan_step.specs.Receivers.{is_one_of, goes_to}
+use Rattle.lan_step.specs.Frames.{Frame, kept, frame_of, has_taken, is_live, is_taken, picked_of, kept_at, marked, marked_at, marked_frame}
 use Rattle.lan_bag.specs.steps.Openings.{is_open_to, is_open_at, is_open, IsClosedTo, IsFirstOpen, IsFreshAt, IsLeastAt, IsLeastOpen, IsPairAt, lesser_of}
-use Rattle.lan_bag.specs.steps.Places.{push_last, set_same, set_other, kept_places, marked_by, takes_in, takes_at}
-use Rattle.lan_bag.specs.Bag.{Bag, link_of, took_by}
+use Rattle.lan_step.proofs.Places.{push_last, set_same, set_other, kept_places, marked_by, takes_in, takes_at}
+use Rattle.lan_step.specs.Bag.{Bag, link_of, took_by}
 use Rattle.osi_base.specs.Link.{is_fresh, IsUpTo, IsLeastFresh}
 
 -- the least of the systems that can take a frame, and have not, at the ports of the first rows

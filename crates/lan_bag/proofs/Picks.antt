@@ -2,9 +2,9 @@
 use Rattle.std.proofs.Common.{◌≡◌, ℕ, not, if◌then◌else◌, Bool, true, false, List, Option, None, subst}
 use Rattle.osi_base.specs.declared.unit.Picked.{Picked}
 use Rattle.osi_base.specs.declared.unit.Picked.TheVariants.{Late, NoSuch, Taken as WasPicked}
-use Rattle.lan_bag.specs.declared.setup.Lan.{Lan}
-use Rattle.lan_bag.specs.declared.setup.PortRow.{PortRow}
-use Rattle.lan_bag.specs.Frames.{Frame, frame_of, is_given, picked, picked_late}
+use Rattle.lan_step.specs.declared.row.Lan.{Lan}
+use Rattle.lan_step.specs.declared.row.PortRow.{PortRow}
+use Rattle.lan_step.specs.Frames.{Frame, frame_of, is_given, picked, picked_late}
 
 -- its frame is there
 pub picked_there : (clock : ℕ) (lans : List Lan) (rows : List PortRow) (frames : List (Option Frame)) (pick system : ℕ) → WasPicked ≡ picked clock lans rows frames pick system → frame_of frames pick ≡ None → ⊥

@@ -4,9 +4,9 @@ use Rattle.std.proofs.Common.{◌≡◌, ℕ, zero, suc, ◌+◌, ◌-◌, ◌<�
 use Rattle.std.proofs.lemmas.List.{length-set}
 use Rattle.std.proofs.lemmas.List.Sums.{sum_by-cons}
 use Rattle.std.proofs.lemmas.Option.{slice_get-get_or}
-use Rattle.lan_bag.specs.declared.setup.Lan.{Lan}
-use Rattle.lan_bag.specs.Frames.{Frame, kept, kept_at, marked, marked_frame, marked_slot, marked_at}
-use Rattle.lan_bag.specs.Offers.{live_count}
+use Rattle.lan_step.specs.declared.row.Lan.{Lan}
+use Rattle.lan_step.specs.Frames.{Frame, kept, kept_at, marked, marked_frame, marked_slot, marked_at}
+use Rattle.lan_step.specs.Offers.{live_count}
 use Rattle.lan_bag.specs.steps.Store.{marked_in, IsStored}
 use Rattle.lan_bag.specs.steps.Wheel.{given_up_at}
 

@@ -7,10 +7,10 @@ use Rattle.std.proofs.lemmas.List.{get_or-set_same, drop_more}
 use Rattle.std.proofs.lemmas.List.Elements.{Contains-push, Contains-append_left}
 use Rattle.osi_base.specs.declared.unit.Unit.{Unit as CarriedUnit}
 use Rattle.nsap.specs.declared.port.Port.{Port}
-use Rattle.lan_bag.specs.declared.setup.Lan.{Lan}
-use Rattle.lan_bag.specs.Rows.{bound_on}
-use Rattle.lan_bag.specs.Frames.{Frame, kept, kept_at, is_live, marked, marked_frame, marked_at}
-use Rattle.lan_bag.specs.steps.Places.{push_cases, set_same, set_other, kept_places, kept_was, live_kept}
+use Rattle.lan_step.specs.declared.row.Lan.{Lan}
+use Rattle.lan_step.specs.Rows.{bound_on}
+use Rattle.lan_step.specs.Frames.{Frame, kept, kept_at, is_live, marked, marked_frame, marked_at}
+use Rattle.lan_step.proofs.Places.{push_cases, set_same, set_other, kept_places, kept_was, live_kept}
 use Rattle.lan_bag.specs.steps.Wheel.{list_at, listed, turned, IsDue, AreDue, AreLateAmong, given_up_at}
 
 pub on_err : {T E P : Type 0} (r : Result T E) → P → OnErr r P

@@ -1,7 +1,1 @@
-pub mod Bag
-pub mod Frames
-pub mod Offers
-pub mod Reading
-pub mod Receivers
-pub mod Rows
 pub mod steps

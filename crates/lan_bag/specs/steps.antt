@@ -1,12 +1,6 @@
-pub mod Choosing
 pub mod Index
-pub mod Injecting
-pub mod Keeping
-pub mod Offering
 pub mod Openings
-pub mod Places
 pub mod Setting
 pub mod Standing
 pub mod Store
-pub mod Ticking
 pub mod Wheel

@@ -5,10 +5,10 @@ ghost use Rattle.std.specs.BTreeSet.{contains};
 ghost use Rattle.std.specs.Ordering.{nat_cmp};
 ghost use Rattle.osi_base.specs.declared.unit.Offered.TheVariants.{Taken as WasTaken};
 ghost use Rattle.osi_base.specs.declared.unit.Picked.TheVariants.{Taken as WasPicked};
-ghost use Rattle.lan_bag.specs.Rows.{IsSetUp, sender_of};
-ghost use Rattle.lan_bag.specs.Bag.{frame_note};
-ghost use Rattle.lan_bag.specs.Frames.{live_frame, octets_of, frame_of, strays_of};
-ghost use Rattle.lan_bag.specs.Offers.{offered};
+ghost use Rattle.lan_step.specs.Rows.{IsSetUp, sender_of};
+ghost use Rattle.lan_step.specs.Bag.{frame_note};
+ghost use Rattle.lan_step.specs.Frames.{live_frame, octets_of, frame_of, strays_of};
+ghost use Rattle.lan_step.specs.Offers.{offered};
 ghost use Rattle.lan_bag.specs.steps.Index.{AreIndexed};
 
 use crate::delivery::judge;
@@ -17,10 +17,11 @@ use crate::frame_index::FrameIndex;
 use crate::frame_store::FrameStore;
 use crate::next_delivery::{LeastPair, fresh_after, fresh_while_live, open_with};
 use crate::offering::answer_to;
-use crate::setup::{Lan, PortRow, Setup};
+use crate::setup::Setup;
 use crate::waiting::Waiting;
 use crate::wheel::Wheel;
 use lan_frame::HEADER;
+use lan_step::{Lan, PortRow};
 use nsap::Port;
 use osi_base::{Carrier, Injected, NoMemory, Note, Offered, Picked, Tick, Unit, Up, Wish};
 use std::alloc::Global;
@@ -66,7 +67,7 @@ impl Drop for LanBag {
 impl Model for LanBag {
     ghost use Rattle.std.specs.BTreeSet.{contains};
     ghost use Rattle.std.specs.Ordering.{nat_cmp};
-    ghost use Rattle.lan_bag.specs.Bag.{Bag};
+    ghost use Rattle.lan_step.specs.Bag.{Bag};
     ghost use Rattle.lan_bag.specs.steps.Standing.{IsStanding};
 
     ghost Value = { Bag };
@@ -87,7 +88,7 @@ impl Model for LanBag {
 impl LanBag {
     ghost use Rattle.osi_base.specs.Calls.{Offer, Choose, Inject, Tick as OneTick};
     ghost use Rattle.osi_base.specs.Link.{IsLeastFresh};
-    ghost use Rattle.lan_bag.specs.Bag.{new_bag, BagStep, after_offer, after_pick, link_of, picked_in};
+    ghost use Rattle.lan_step.specs.Bag.{new_bag, BagStep, after_offer, after_pick, link_of, picked_in};
 
     /// These LANs, numbered from 0, with no frame, at clock 0.
     pub fn new(alloc: Global, lans: &[Lan], ports: &[PortRow]) -> Result<LanBag, NoMemory>
@@ -288,7 +289,7 @@ fn strays_in(
 impl Carrier for LanBag {
     ghost use Rattle.std.specs.Prelude.{IfOk};
     ghost use Rattle.osi_base.specs.Calls.{Offers, Injects, Offer, Inject};
-    ghost use Rattle.lan_bag.specs.Bag.{link_of, BagStep};
+    ghost use Rattle.lan_step.specs.Bag.{link_of, BagStep};
 
     type Addr = Port;
 
@@ -349,7 +350,7 @@ impl Carrier for LanBag {
         self.strays
     }
 
-    ghost use Rattle.lan_bag.specs.steps.Keeping.{bag_given, bag_keeps};
+    ghost use Rattle.lan_step.proofs.Keeping.{bag_given, bag_keeps};
 
     ghost given = { bag_given };
 

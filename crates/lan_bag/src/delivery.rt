@@ -1,7 +1,7 @@
 //! Which answers choices of a frame get (IEEE 802.3).
 
 ghost use Rattle.std.specs.Prelude.{◌≡◌};
-ghost use Rattle.lan_bag.specs.Frames.{picked, picked_of};
+ghost use Rattle.lan_step.specs.Frames.{picked, picked_of};
 
 use crate::frame::Sent;
 use crate::frame_store::FrameStore;

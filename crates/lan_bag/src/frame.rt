@@ -2,8 +2,8 @@
 
 ghost use Rattle.std.specs.Prelude.{◌≡◌, ◌≤◌, [], length, IfOk, OnErr, OnOk};
 ghost use Rattle.lan_frame.specs.Frame.{whole_frame};
-ghost use Rattle.lan_bag.specs.Frames.{has_taken, marked, is_of};
-ghost use Rattle.lan_bag.specs.Reading.{ups_of};
+ghost use Rattle.lan_step.specs.Frames.{has_taken, marked, is_of};
+ghost use Rattle.lan_step.specs.Reading.{ups_of};
 
 use crate::takers::Takers;
 use lan_frame::{HEADER, read_frame, write_frame};
@@ -25,7 +25,7 @@ pub struct Sent {
 // The octets are those of the whole frame.
 impl Model for Sent {
     ghost use Rattle.std.specs.Prelude.{drop};
-    ghost use Rattle.lan_bag.specs.Frames.{Frame};
+    ghost use Rattle.lan_step.specs.Frames.{Frame};
     ghost use Rattle.lan_bag.specs.steps.Store.{IsWhole};
 
     ghost Value = { Frame };

@@ -5,7 +5,7 @@ ghost use Rattle.std.specs.BTreeSet.{IsUnchanged, Updates, contains, keys_betwee
 ghost use Rattle.std.specs.List.{list_any};
 ghost use Rattle.std.specs.Ordering.{nat_cmp};
 ghost use Rattle.std.specs.declared.ops.Bound.TheVariants.{Included};
-ghost use Rattle.lan_bag.specs.Frames.{kept, kept_at, carries_live};
+ghost use Rattle.lan_step.specs.Frames.{kept, kept_at, carries_live};
 ghost use Rattle.lan_bag.specs.steps.Index.{AreIndexed, AreIndexedTo, Joins, JoinsWhere, carries_at, code_of, key_of, sum_from};
 
 use crate::frame::Sent;

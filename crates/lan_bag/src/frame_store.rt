@@ -1,8 +1,8 @@
 //! The frames by their numbers (IEEE 802.3).
 
 ghost use Rattle.std.specs.Prelude.{◌≡◌, ◌<◌, ◌≤◌, ◌+◌, ◌++◌, ◌∷◌, [], Some, None, if◌then◌else◌, not, ◌&&◌, ◌||◌, nat_le, length, map, is_some, option_copied, replicate, slice_get, OnOk, OnErr};
-ghost use Rattle.lan_bag.specs.Frames.{kept, frame_of, kept_at, marked_at, marked_slot};
-ghost use Rattle.lan_bag.specs.Offers.{live_count};
+ghost use Rattle.lan_step.specs.Frames.{kept, frame_of, kept_at, marked_at, marked_slot};
+ghost use Rattle.lan_step.specs.Offers.{live_count};
 ghost use Rattle.lan_bag.specs.steps.Store.{marked_in};
 ghost use Rattle.lan_bag.specs.steps.Wheel.{AreLateAmong, given_up_at};
 
@@ -29,7 +29,7 @@ pub struct FrameStore {
 // The late frames at the front are gone; the live ones are counted, and the numbers fit.
 impl Model for FrameStore {
     ghost use Rattle.std.specs.Prelude.{◌++◌, List, Option, None, replicate};
-    ghost use Rattle.lan_bag.specs.Frames.{Frame};
+    ghost use Rattle.lan_step.specs.Frames.{Frame};
     ghost use Rattle.lan_bag.specs.steps.Store.{IsStored};
 
     ghost Value = { List (Option Frame) };

@@ -2,10 +2,9 @@
 
 ghost use Rattle.std.specs.Prelude.{◌≡◌, false};
 ghost use Rattle.std.specs.List.{list_any};
-ghost use Rattle.lan_bag.specs.Receivers.{is_named_by};
+ghost use Rattle.lan_step.specs.Receivers.{is_named_by};
 
-use crate::receivers::group_of;
-use crate::setup::PortRow;
+use lan_step::{PortRow, group_of};
 use nsap::Snpa;
 use std::marker::Model;
 
@@ -21,7 +20,7 @@ pub struct LanPorts {
 // Both answers are those of the ports.
 impl Model for LanPorts {
     ghost use Rattle.std.specs.Prelude.{List};
-    ghost use Rattle.lan_bag.specs.declared.setup.PortRow.{PortRow as Row};
+    ghost use Rattle.lan_step.specs.declared.row.PortRow.{PortRow as Row};
     ghost use Rattle.lan_bag.specs.steps.Setting.{IsListed};
 
     ghost Value = { List Row };

@@ -1,7 +1,7 @@
 //! When a frame is late: no system takes it any more.
 
 ghost use Rattle.std.specs.Prelude.{◌≡◌};
-ghost use Rattle.lan_bag.specs.Frames.{is_live};
+ghost use Rattle.lan_step.specs.Frames.{is_live};
 
 use crate::frame::Sent;
 use crate::setup::Setup;

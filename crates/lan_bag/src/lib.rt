@@ -10,7 +10,6 @@ mod lan_ports;
 mod late;
 mod next_delivery;
 mod offering;
-mod receivers;
 mod setup;
 mod takers;
 mod waiting;
@@ -18,4 +17,4 @@ mod wheel;
 
 pub use bag::LanBag;
 pub use frame::Sent;
-pub use setup::{Lan, PortRow};
+pub use lan_step::{Lan, PortRow};

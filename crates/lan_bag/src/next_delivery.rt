@@ -1,7 +1,7 @@
 //! Which delivery comes next: the first frame that a system may take and has not taken (IEEE 802.3).
 
 ghost use Rattle.std.specs.Prelude.{◌≡◌, ◌≢◌, ◌≤◌, ◌+◌, length, IsSome, Some, option_copied, slice_get};
-ghost use Rattle.lan_bag.specs.Frames.{Frame, frame_of, kept};
+ghost use Rattle.lan_step.specs.Frames.{Frame, frame_of, kept};
 ghost use Rattle.lan_bag.specs.steps.Openings.{is_free_to, IsClosedTo, IsFreshAt, IsLeastAt, IsLeastOpen, lesser_of};
 
 use crate::frame::Sent;

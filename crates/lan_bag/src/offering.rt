@@ -1,8 +1,8 @@
 //! Which frames a LAN takes, and why it drops the others (IEEE 802.3).
 
 ghost use Rattle.std.specs.Prelude.{◌≡◌};
-ghost use Rattle.lan_bag.specs.Rows.{sender_of};
-ghost use Rattle.lan_bag.specs.Offers.{offered};
+ghost use Rattle.lan_step.specs.Rows.{sender_of};
+ghost use Rattle.lan_step.specs.Offers.{offered};
 
 use crate::frame_store::FrameStore;
 use crate::setup::Setup;

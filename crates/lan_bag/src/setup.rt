@@ -2,12 +2,12 @@
 
 ghost use Rattle.std.specs.Prelude.{◌≡◌, IfOk, false};
 ghost use Rattle.std.specs.List.{list_any};
-ghost use Rattle.lan_bag.specs.Rows.{bound_on, room_on, is_on, sender_of, has_sent};
-ghost use Rattle.lan_bag.specs.Receivers.{goes_to, is_one_of};
+ghost use Rattle.lan_step.specs.Rows.{bound_on, room_on, is_on, sender_of, has_sent};
+ghost use Rattle.lan_step.specs.Receivers.{goes_to, is_one_of};
 ghost use Rattle.lan_bag.specs.steps.Setting.{AreOfLans, rows_on};
 
 use crate::lan_ports::LanPorts;
-use crate::receivers::goes_to;
+use lan_step::{Lan, PortRow, goes_to};
 use nsap::Port;
 use osi_base::NoMemory;
 use std::alloc::Global;
@@ -18,26 +18,6 @@ const UNLISTED: Lan = Lan {
     bound: 1,
     room: 264,
 };
-
-/// One LAN.
-#[derive(Clone, Copy, Debug, PartialEq, Eq)]
-pub struct Lan {
-    /// For how many ticks a frame may be taken.
-    pub bound: u32,
-    /// The most octets of a network PDU in one frame.
-    pub room: u32,
-}
-
-/// A system has a port.
-#[derive(Clone, Copy, Debug, PartialEq, Eq)]
-pub struct PortRow {
-    /// The system's number.
-    pub system: u8,
-    /// Whether it is an end system, and else an intermediate one.
-    pub end: bool,
-    /// The port.
-    pub port: Port,
-}
 
 /// The LANs, numbered from 0, and the ports of the systems.
 #[derive(Drop)]

@@ -36,7 +36,7 @@ use Rattle.tp4_entity.specs.References.{is_free}
 use Rattle.tp4_entity.specs.Step.{calling as calling_at, calling_end, end_refusal, refused_by, user_refusal}
 use Rattle.tp4_entity.specs.declared.refusal.EntityRefusal.{EntityRefusal}
 use Rattle.law_tp4_pair.specs.Claim.{IsUndropped}
-use Rattle.law_tp4_pair.specs.steps.Standing.{HasLeft}
+use Rattle.law_tp4_pair.specs.Standing.{HasLeft}
 use Rattle.tp4_conn.specs.declared.proposed.Proposed.{Proposed}
 use Rattle.tp4_conn.proofs.Agreed.{agreed_within}
 use Rattle.tp4_conn.proofs.Sizes.{agreed_sized}
@@ -48,7 +48,7 @@ use Rattle.tp4_world.specs.declared.place.EndAt.{EndAt}
 use Rattle.tp4_world.specs.declared.place.Placed.{Placed}
 use Rattle.law_tp4_associations.specs.Association.{Association, Posted, post, with_party}
 use Rattle.law_tp4_associations.specs.Handing.{Aside, Begins, IsBetweenOpen, Taken, Takes}
-use Rattle.law_tp4_associations.specs.steps.Together.{Laws}
+use Rattle.law_tp4_associations.proofs.AllLaws.{Laws}
 use Rattle.law_tp4_associations.specs.Standing.{IsParty, Standing}
 use Rattle.law_tp4_associations.specs.Ticking.{IsTicking}
 use Rattle.law_tp4_associations.proofs.Together.{all_laws}

@@ -16,7 +16,7 @@ use Rattle.tp4_conn.specs.declared.timers.Timers.{Timers}
 use Rattle.tp4_entity.specs.Entity.{Acted, Entity, at, end_at, moved}
 use Rattle.tp4_entity.specs.References.{is_free}
 use Rattle.tp4_entity.specs.Step.{calling, calling_end, end_refusal, refused_by, user_refusal}
-use Rattle.law_tp4_pair.specs.steps.Standing.{HasLeft}
+use Rattle.law_tp4_pair.specs.Standing.{HasLeft}
 use Rattle.law_tp4_moves.specs.Lines.{given, shown_in}
 use Rattle.tp4_world.specs.Ended.{has_ended}
 use Rattle.tp4_world.specs.Telling.{call_events, events_after}

@@ -15,7 +15,7 @@ use Rattle.tp4_conn.specs.declared.states.StateData.{StateData}
 use Rattle.tp4_conn.specs.declared.states.StateData.TheVariants as stages
 use Rattle.law_tp4_moves.specs.Lines.{given, shown_in}
 use Rattle.law_tp4_pair.specs.Pair.{Accepts}
-use Rattle.law_tp4_pair.specs.steps.Standing.{HasLeft}
+use Rattle.law_tp4_pair.specs.Standing.{HasLeft}
 use Rattle.tp4_world.specs.declared.place.EndAt.{EndAt}
 use Rattle.law_tp4_associations.specs.Association.{Association, post, waiting, with_party}
 use Rattle.law_calm_service.proofs.Story.{AreOpening, IsRunning, IsYoung, Numbers, Tells}

@@ -9,7 +9,7 @@ use Rattle.net_world.specs.Fifo.{IsFifo}
 use Rattle.tp4_number.specs.Number.{whole}
 use Rattle.tp4_conn.specs.declared.timers.Timers.{Timers}
 use Rattle.law_tp4_proper.proofs.Ends.{waits}
-use Rattle.law_tp4_pair.specs.steps.Pairs.{AreLater}
+use Rattle.law_tp4_pair.specs.Pairs.{AreLater}
 use Rattle.tp4_world.specs.World.{World}
 use Rattle.tp4_world.specs.declared.place.Placed.{Placed}
 use Rattle.law_calm_run.specs.Run.{IsCalmRun, IsStart}

@@ -8,7 +8,7 @@ use Rattle.law_tp4_history.specs.Journals.{IsAside}
 use Rattle.tp4_world.specs.World.{World}
 use Rattle.tp4_world.specs.declared.place.Placed.{Placed}
 use Rattle.law_tp4_associations.specs.Association.{Association, Posted}
-use Rattle.law_tp4_associations.specs.steps.Together.{Laws}
+use Rattle.law_tp4_associations.proofs.AllLaws.{Laws}
 use Rattle.law_tp4_associations.specs.Ticking.{IsTicking}
 use Rattle.law_tp4_associations.proofs.Together.{all_laws}
 use Rattle.law_calm_run.specs.Run.{HaveEntities, IsStart}

@@ -17,7 +17,7 @@ use Rattle.tp4_conn.specs.declared.call.UserCall.TheVariants.{Accept}
 use Rattle.tp4_entity.specs.Step.{is_due}
 use Rattle.law_tp4_history.proofs.Appended.{shown-append, submitted-append}
 use Rattle.law_tp4_moves.specs.Lines.{given, shown_in}
-use Rattle.law_tp4_pair.specs.steps.Pairs.{IsToldIn}
+use Rattle.law_tp4_pair.specs.Pairs.{IsToldIn}
 use Rattle.law_tp4_pair.specs.Pair.{Accepts, Asks_called, Asks_calling, Clock, Comes_back, Comes_forth, Happening, Leads, May, Pair, next, tick_of}
 use Rattle.law_calm_service.proofs.Story.{HasNoUnits, HasRun, HasTicked, IsClocking, IsRunning, pair_of}
 use Rattle.law_calm_service.proofs.Telling.{ActsIn}

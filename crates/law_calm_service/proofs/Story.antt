@@ -15,11 +15,11 @@ use Rattle.tp4_conn.specs.declared.call.UserCall.TheVariants.{Accept}
 use Rattle.tp4_conn.specs.declared.states.InCrWait.{InCrWait}
 use Rattle.tp4_conn.specs.declared.states.StateData.{StateData}
 use Rattle.tp4_conn.specs.declared.states.StateData.TheVariants.{AkWait, CrWait, Opened, UserWait}
-use Rattle.law_tp4_pair.specs.steps.Pairs.{IsToldIn}
+use Rattle.law_tp4_pair.specs.Pairs.{IsToldIn}
 use Rattle.tp4_entity.specs.Step.{is_due}
 use Rattle.law_tp4_moves.specs.Lines.{shown_in}
 use Rattle.law_tp4_pair.specs.Pair.{Accepts, Asks_called, Happening, Leads, Pair, next, tick_of}
-use Rattle.law_tp4_pair.specs.steps.Standing.{HasLeft}
+use Rattle.law_tp4_pair.specs.Standing.{HasLeft}
 use Rattle.tp4_world.specs.Run.{transport_address}
 use Rattle.tp4_world.specs.World.{latest}
 use Rattle.tp4_world.specs.declared.place.EndAt.{EndAt}

@@ -13,7 +13,7 @@ use Rattle.tp4_conn.specs.Table.{Event}
 use Rattle.law_tp4_history.specs.Journals.{IsAside, MakesNone, makes_end}
 use Rattle.law_tp4_history.proofs.Appended.{shown-append, submitted-append}
 use Rattle.law_tp4_moves.specs.Lines.{given, shown_in}
-use Rattle.law_tp4_pair.specs.steps.Pairs.{IsToldIn}
+use Rattle.law_tp4_pair.specs.Pairs.{IsToldIn}
 use Rattle.tp4_world.specs.Telling.{events_after}
 use Rattle.tp4_world.specs.World.{latest}
 use Rattle.tp4_world.specs.declared.place.EndAt.{EndAt}

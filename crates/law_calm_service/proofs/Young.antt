@@ -35,7 +35,7 @@ use Rattle.tp4_conn.specs.UserWait.{user_wait_accept, user_wait_refuse, user_wai
 use Rattle.tp4_conn.specs.WaitBeforeClose.{wait_before_close_tick, wait_before_close_tpdu}
 use Rattle.law_calm_service.proofs.Story.{IsYoung}
 use Rattle.law_tp4_moves.specs.Lines.{given, shown_in}
-use Rattle.law_tp4_pair.specs.steps.Standing.{HasLeft}
+use Rattle.law_tp4_pair.specs.Standing.{HasLeft}
 use Rattle.law_tp4_pair.proofs.Leaving.{stays_left}
 
 -- ---- an end that is still to be answered

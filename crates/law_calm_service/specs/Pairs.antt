@@ -8,7 +8,7 @@ use Rattle.script_lines.specs.declared.line.Line.{Line}
 use Rattle.tp4_conn.specs.declared.timers.Timers.{Timers}
 use Rattle.law_tp4_history.specs.Journals.{IsAside}
 use Rattle.law_tp4_pair.specs.Claim.{AllShown}
-use Rattle.law_tp4_pair.specs.steps.Pairs.{ArePairs}
+use Rattle.law_tp4_pair.specs.Pairs.{ArePairs}
 use Rattle.tp4_world.specs.World.{World}
 use Rattle.law_calm_run.specs.Run.{IsCalmRun, IsStart}
 use Rattle.law_calm_run.specs.Service.{end_at_number}

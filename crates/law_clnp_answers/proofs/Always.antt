@@ -14,10 +14,10 @@ use Rattle.osi_base.specs.Calls.{Call, Offer, Choose, Inject, NextUp, Tick}
 use Rattle.osi_base.specs.Floated.{is_young}
 use Rattle.law_carrier_answers.specs.Answers.{AlwaysAnswers, SomeGathering, Asked, CanBeAsked, Offering, Choosing, Injecting, TakingUp, Ticking, asked_of}
 use Rattle.law_carrier_answers.proofs.Gatherings.{some_gathering}
-use Rattle.lan_bag.specs.Bag.{Bag, BagStep, link_of, new_bag}
-use Rattle.lan_bag.specs.declared.setup.Lan.{Lan}
-use Rattle.lan_bag.specs.declared.setup.PortRow.{PortRow}
-use Rattle.lan_bag.specs.steps.Keeping.{bag_given, bag_keeps}
+use Rattle.lan_step.specs.Bag.{Bag, BagStep, link_of, new_bag}
+use Rattle.lan_step.specs.declared.row.Lan.{Lan}
+use Rattle.lan_step.specs.declared.row.PortRow.{PortRow}
+use Rattle.lan_step.proofs.Keeping.{bag_given, bag_keeps}
 use Rattle.esis_tables.specs.Rows.{Rows}
 use Rattle.clnp_system.specs.Node.{Frame, Node}
 use Rattle.clnp_system.specs.Sending.{Sends}

@@ -9,7 +9,7 @@ use Rattle.osi_base.specs.declared.unit.Up.{Up}
 use Rattle.osi_base.specs.declared.unit.Wish.{Wish}
 use Rattle.osi_base.specs.Calls.{Offer, Choose, Inject, NextUp, Tick}
 use Rattle.law_carrier_answers.specs.Answers.{Asked, Offering, Choosing, Injecting, OneStep}
-use Rattle.lan_bag.specs.Bag.{Bag, BagStep, after_choose, after_inject, after_offer, link_of}
+use Rattle.lan_step.specs.Bag.{Bag, BagStep, after_choose, after_inject, after_offer, link_of}
 use Rattle.clnp_system.specs.Tables.{rows_tables}
 use Rattle.law_clnp_answers.specs.Laws.{OneNetAnswer, OneNetBeginning}
 use Rattle.law_clnp_answers.proofs.Steps.{one_answer, one_beginning, one_front}

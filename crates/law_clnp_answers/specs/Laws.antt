@@ -5,9 +5,9 @@ use Rattle.nsap.specs.declared.port.Port.{Port}
 use Rattle.osi_base.specs.Calls.{Call}
 use Rattle.osi_base.specs.Link.{Link}
 use Rattle.law_carrier_answers.specs.Answers.{AlwaysAnswers, OneStep, SomeGathering}
-use Rattle.lan_bag.specs.Bag.{Bag, BagStep, link_of}
-use Rattle.lan_bag.specs.declared.setup.Lan.{Lan}
-use Rattle.lan_bag.specs.declared.setup.PortRow.{PortRow}
+use Rattle.lan_step.specs.Bag.{Bag, BagStep, link_of}
+use Rattle.lan_step.specs.declared.row.Lan.{Lan}
+use Rattle.lan_step.specs.declared.row.PortRow.{PortRow}
 use Rattle.esis_tables.specs.Rows.{Rows, no_rows}
 use Rattle.clnp_system.specs.Node.{Node, fresh_node}
 use Rattle.clnp_system.specs.Setting.{Setting}

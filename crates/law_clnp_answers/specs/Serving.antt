@@ -8,7 +8,7 @@ use Rattle.osi_base.specs.Link.{Link, IsLeastFresh}
 use Rattle.osi_base.specs.Calls.{Call}
 use Rattle.law_carrier_answers.specs.Answers.{AlwaysAnswers, MayBeOffered}
 use Rattle.esis_tables.specs.Rows.{Rows}
-use Rattle.lan_bag.specs.Bag.{Bag}
+use Rattle.lan_step.specs.Bag.{Bag}
 use Rattle.law_clnp_step.specs.Network.{Network}
 use Rattle.law_clnp_answers.specs.Standing.{Stands, is_nsap}
 

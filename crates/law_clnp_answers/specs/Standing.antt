@@ -6,8 +6,8 @@ use Rattle.nsap.specs.declared.port.Port.{Port}
 use Rattle.nsap.specs.declared.port.Hop.{Hop}
 use Rattle.osi_base.specs.declared.unit.Up.{Up}
 use Rattle.osi_base.specs.declared.unit.Up.TheVariants.{Unit as Came, Note as Noted}
-use Rattle.lan_bag.specs.Bag.{Bag, link_of}
-use Rattle.lan_bag.specs.Frames.{Frame as LanFrame}
+use Rattle.lan_step.specs.Bag.{Bag, link_of}
+use Rattle.lan_step.specs.Frames.{Frame as LanFrame}
 use Rattle.pdu_parts.specs.Field.{IsAddress}
 use Rattle.law_carrier_answers.specs.Answers.{AreOctets}
 use Rattle.clnp_segment.specs.Store.{HasPlaces, Partial}

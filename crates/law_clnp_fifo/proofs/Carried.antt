@@ -6,9 +6,9 @@ use Rattle.osi_base.specs.declared.unit.Picked.TheVariants.{Taken as WasPicked}
 use Rattle.osi_base.specs.declared.unit.Unit.{Unit as CarriedUnit}
 use Rattle.osi_base.specs.declared.unit.Up.{Up}
 use Rattle.osi_base.specs.Calls.{Choose, Offer, Tick}
-use Rattle.lan_bag.specs.Bag.{Bag, BagStep, link_of, new_bag}
-use Rattle.lan_bag.specs.declared.setup.Lan.{Lan}
-use Rattle.lan_bag.specs.declared.setup.PortRow.{PortRow}
+use Rattle.lan_step.specs.Bag.{Bag, BagStep, link_of, new_bag}
+use Rattle.lan_step.specs.declared.row.Lan.{Lan}
+use Rattle.lan_step.specs.declared.row.PortRow.{PortRow}
 use Rattle.esis_tables.specs.Rows.{Rows}
 use Rattle.clnp_segment.specs.Store.{Partial}
 use Rattle.clnp_system.specs.Node.{Node}

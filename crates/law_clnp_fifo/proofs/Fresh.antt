@@ -6,7 +6,7 @@ use Rattle.nsap.specs.declared.port.Hop.{Hop}
 use Rattle.osi_base.specs.declared.unit.DropCause.TheVariants as causes
 use Rattle.osi_base.specs.declared.unit.Unit.{Unit as CarriedUnit}
 use Rattle.osi_base.specs.declared.unit.Wish.{Wish}
-use Rattle.lan_bag.specs.Bag.{link_of}
+use Rattle.lan_step.specs.Bag.{link_of}
 use Rattle.esis_tables.specs.Rows.{Rows}
 use Rattle.clnp_segment.specs.Store.{Key, Partial, has_key, key_of}
 use Rattle.clnp_segment.proofs.Units.{key_there}

@@ -5,7 +5,7 @@ use Rattle.osi_base.specs.declared.unit.Up.{Up}
 use Rattle.osi_base.specs.Calls.{Call, Chain, NextUp}
 use Rattle.osi_base.specs.Gathering.{Gathers, takings}
 use Rattle.osi_base.specs.Link.{Link}
-use Rattle.lan_bag.specs.Bag.{Bag, BagStep, link_of}
+use Rattle.lan_step.specs.Bag.{Bag, BagStep, link_of}
 use Rattle.esis_tables.specs.Rows.{Rows}
 use Rattle.clnp_system.specs.Tables.{rows_tables}
 use Rattle.law_clnp_step.specs.Network.{Network, net_link}

@@ -15,11 +15,11 @@ use Rattle.osi_base.specs.Calls.{Offer, Choose, Tick}
 use Rattle.osi_base.specs.Gathering.{Gathers}
 use Rattle.osi_base.specs.Link.{IsLeastFresh, IsNote, IsUpTo}
 use Rattle.nsap.specs.declared.port.Port.{Port}
-use Rattle.lan_bag.specs.declared.setup.Lan.{Lan}
-use Rattle.lan_bag.specs.declared.setup.PortRow.{PortRow}
-use Rattle.lan_bag.specs.Bag.{Bag, BagStep, after_choose, after_pick, frame_note, link_of}
-use Rattle.lan_bag.specs.Frames.{Frame, kept, kept_at, marked, marked_at, marked_frame}
-use Rattle.lan_bag.specs.Rows.{sender_of}
+use Rattle.lan_step.specs.declared.row.Lan.{Lan}
+use Rattle.lan_step.specs.declared.row.PortRow.{PortRow}
+use Rattle.lan_step.specs.Bag.{Bag, BagStep, after_choose, after_pick, frame_note, link_of}
+use Rattle.lan_step.specs.Frames.{Frame, kept, kept_at, marked, marked_at, marked_frame}
+use Rattle.lan_step.specs.Rows.{sender_of}
 use Rattle.lan_bag.specs.steps.Openings.{IsClosedTo, IsFirstOpen, is_open, is_open_to}
 use Rattle.lan_bag.proofs.Openings.{least_fresh, none_fresh}
 use Rattle.law_clnp_fifo.specs.Frames.{GoesNowhere, GoesOnlyTo, HasWaiting, IsAt, IsSpent, sent, sent_at}

@@ -9,7 +9,7 @@ use Rattle.osi_base.specs.declared.unit.Up.{Up}
 use Rattle.osi_base.specs.Calls.{Offer}
 use Rattle.osi_base.specs.Gathering.{Gathers}
 use Rattle.nsap.specs.declared.port.Port.{Port}
-use Rattle.lan_bag.specs.Bag.{Bag, BagStep, link_of}
+use Rattle.lan_step.specs.Bag.{Bag, BagStep, link_of}
 use Rattle.clnp_system.specs.Node.{Frame}
 use Rattle.law_clnp_step.specs.Handling.{OffersFrame, OffersFrames, drop_note, notes_of, plain_wish}
 use Rattle.net_world.specs.Fifo.{NoneDropped, arrivals}

@@ -7,10 +7,10 @@ use Rattle.osi_base.specs.declared.unit.Picked.{Picked}
 use Rattle.osi_base.specs.declared.unit.Picked.TheVariants.{Taken as WasPicked, NotOurs, NotThere}
 use Rattle.osi_base.specs.declared.unit.Unit.{Unit as CarriedUnit}
 use Rattle.nsap.specs.declared.port.Port.{Port}
-use Rattle.lan_bag.specs.declared.setup.PortRow.{PortRow}
-use Rattle.lan_bag.specs.Frames.{Frame, is_taken, picked_of}
-use Rattle.lan_bag.specs.Rows.{same_port, same_snpa}
-use Rattle.lan_bag.specs.Receivers.{group_of_kind, is_one_of}
+use Rattle.lan_step.specs.declared.row.PortRow.{PortRow}
+use Rattle.lan_step.specs.Frames.{Frame, is_taken, picked_of}
+use Rattle.lan_step.specs.Rows.{same_port, same_snpa}
+use Rattle.lan_step.specs.Receivers.{group_of_kind, is_one_of}
 use Rattle.law_clnp_fifo.specs.Calm.{end_row}
 use Rattle.law_clnp_fifo.specs.Frames.{GoesNowhere, GoesOnlyTo}
 use Rattle.law_clnp_fifo.proofs.Addresses.{is_itself, turned}

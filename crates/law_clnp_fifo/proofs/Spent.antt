@@ -6,11 +6,11 @@ use Rattle.std.proofs.lemmas.Bool.{or_parts}
 use Rattle.std.proofs.lemmas.Bool.Decides.{nat_tests}
 use Rattle.osi_base.specs.declared.unit.Unit.{Unit as CarriedUnit}
 use Rattle.nsap.specs.declared.port.Port.{Port}
-use Rattle.lan_bag.specs.declared.setup.Lan.{Lan}
-use Rattle.lan_bag.specs.declared.setup.PortRow.{PortRow}
-use Rattle.lan_bag.specs.Frames.{Frame, is_live, is_taken, kept_at, marked, picked_of}
+use Rattle.lan_step.specs.declared.row.Lan.{Lan}
+use Rattle.lan_step.specs.declared.row.PortRow.{PortRow}
+use Rattle.lan_step.specs.Frames.{Frame, is_live, is_taken, kept_at, marked, picked_of}
 use Rattle.lan_bag.specs.steps.Openings.{IsClosedTo, is_open, is_open_to}
-use Rattle.lan_bag.specs.steps.Places.{marked_by}
+use Rattle.lan_step.proofs.Places.{marked_by}
 use Rattle.law_clnp_fifo.specs.Frames.{GoesNowhere, GoesOnlyTo, IsSpent, sent_at}
 
 -- ---- spent frames

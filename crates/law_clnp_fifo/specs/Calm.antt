@@ -3,8 +3,8 @@ use Rattle.std.specs.Prelude.{◌≡◌, ◌⊎◌, ℕ, ◌≤◌, true, false,
 use Rattle.nsap.specs.Address.{is_same_system, system_part}
 use Rattle.nsap.specs.declared.port.Hop.{Hop}
 use Rattle.nsap.specs.declared.port.Port.{Port}
-use Rattle.lan_bag.specs.Rows.{same_snpa}
-use Rattle.lan_bag.specs.declared.setup.PortRow.{PortRow}
+use Rattle.lan_step.specs.Rows.{same_snpa}
+use Rattle.lan_step.specs.declared.row.PortRow.{PortRow}
 use Rattle.clnp_route.specs.Routes.{next_hop}
 use Rattle.clnp_system.specs.Setting.{Setting, bound_of, is_group}
 

@@ -3,10 +3,10 @@ use Rattle.std.specs.Prelude.{◌≡◌, ℕ, true, false, ◌==◌, List, [], �
 use Rattle.std.specs.List.{AllByRecursion, list_any}
 use Rattle.osi_base.specs.declared.unit.Unit.{Unit as CarriedUnit}
 use Rattle.nsap.specs.declared.port.Port.{Port}
-use Rattle.lan_bag.specs.declared.setup.Lan.{Lan}
-use Rattle.lan_bag.specs.declared.setup.PortRow.{PortRow}
-use Rattle.lan_bag.specs.Bag.{Bag}
-use Rattle.lan_bag.specs.Frames.{Frame, is_taken, picked_of}
+use Rattle.lan_step.specs.declared.row.Lan.{Lan}
+use Rattle.lan_step.specs.declared.row.PortRow.{PortRow}
+use Rattle.lan_step.specs.Bag.{Bag}
+use Rattle.lan_step.specs.Frames.{Frame, is_taken, picked_of}
 use Rattle.lan_bag.specs.steps.Openings.{is_open}
 
 -- a frame that was sent at that tick, and that no system has taken

@@ -5,8 +5,8 @@ use Rattle.std.specs.List.{AllByRecursion, Contains}
 use Rattle.clnp_options.specs.declared.reason.PduKind.TheVariants.{Dt}
 use Rattle.clnp_header.specs.declared.pdu.Pdu.{Pdu}
 use Rattle.clnp_segment.specs.Store.{Partial}
-use Rattle.lan_bag.specs.Bag.{Bag, link_of}
-use Rattle.lan_bag.specs.declared.setup.PortRow.{PortRow}
+use Rattle.lan_step.specs.Bag.{Bag, link_of}
+use Rattle.lan_step.specs.declared.row.PortRow.{PortRow}
 use Rattle.esis_tables.specs.Rows.{Rows}
 use Rattle.clnp_system.specs.Node.{Frame, Node}
 use Rattle.clnp_system.specs.Setting.{Setting, all_intermediates, is_group}

@@ -7,8 +7,8 @@ use Rattle.osi_base.specs.declared.unit.Unit.{Unit as CarriedUnit}
 use Rattle.clnp_options.specs.declared.reason.PduKind.TheVariants.{Er}
 use Rattle.clnp_header.specs.declared.pdu.Pdu.{Pdu}
 use Rattle.clnp_segment.specs.Store.{Key, Partial}
-use Rattle.lan_bag.specs.Bag.{Bag}
-use Rattle.lan_bag.specs.declared.setup.PortRow.{PortRow}
+use Rattle.lan_step.specs.Bag.{Bag}
+use Rattle.lan_step.specs.declared.row.PortRow.{PortRow}
 use Rattle.esis_tables.specs.Rows.{Rows}
 use Rattle.clnp_system.specs.Node.{Frame}
 use Rattle.clnp_system.specs.Setting.{Setting, all_intermediates}

@@ -13,8 +13,8 @@ use Rattle.osi_base.specs.declared.unit.Wish.{Wish}
 use Rattle.osi_base.specs.Calls.{Call, Offer, Choose, Inject, NextUp, Tick}
 use Rattle.osi_base.specs.Floated.{is_young}
 use Rattle.law_carrier_answers.specs.Answers.{AreOctets, Asked, CanBeAsked, Choosing, Injecting, Offering, TakingUp, Ticking, asked_of}
-use Rattle.lan_bag.specs.Bag.{Bag, BagStep, link_of, new_bag}
-use Rattle.lan_bag.specs.steps.Keeping.{bag_keeps}
+use Rattle.lan_step.specs.Bag.{Bag, BagStep, link_of, new_bag}
+use Rattle.lan_step.proofs.Keeping.{bag_keeps}
 use Rattle.inactive_step.specs.declared.row.InactiveRow.{InactiveRow}
 use Rattle.inactive_step.specs.declared.row.Way.{Way}
 use Rattle.inactive_step.specs.Frames.{frame_on, read_up, read_ups, unit_between, unit_in}

@@ -6,9 +6,9 @@ use Rattle.osi_base.specs.declared.unit.DropCause.TheVariants.{Full, NoRoute, To
 use Rattle.osi_base.specs.declared.unit.Offered.{Offered}
 use Rattle.osi_base.specs.declared.unit.Offered.TheVariants.{Taken as WasTaken, Dropped}
 use Rattle.osi_base.specs.declared.unit.Unit.{Unit as CarriedUnit}
-use Rattle.lan_bag.specs.Bag.{Bag, BagStep, link_of}
-use Rattle.lan_bag.specs.Offers.{offered}
-use Rattle.lan_bag.specs.Rows.{room_on, sender_of}
+use Rattle.lan_step.specs.Bag.{Bag, BagStep, link_of}
+use Rattle.lan_step.specs.Offers.{offered}
+use Rattle.lan_step.specs.Rows.{room_on, sender_of}
 use Rattle.inactive_step.specs.declared.row.InactiveRow.{InactiveRow}
 use Rattle.inactive_step.specs.declared.row.Way.{Way}
 use Rattle.inactive_step.specs.Frames.{frame_on}

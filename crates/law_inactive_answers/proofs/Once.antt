@@ -12,7 +12,7 @@ use Rattle.osi_base.specs.Gathering.{Gathers}
 use Rattle.osi_base.specs.Link.{Link}
 use Rattle.law_carrier_answers.specs.Answers.{OneStep, asked_of}
 use Rattle.law_carrier_answers.proofs.Gatherings.{one_gathering}
-use Rattle.lan_bag.specs.Bag.{BagStep, link_of}
+use Rattle.lan_step.specs.Bag.{BagStep, link_of}
 use Rattle.inactive_step.specs.declared.row.Way.{Way}
 use Rattle.inactive_step.specs.Frames.{frame_on, read_ups}
 use Rattle.inactive_step.specs.Way.{way_from}

@@ -5,10 +5,10 @@ use Rattle.osi_base.specs.declared.unit.DropCause.TheVariants.{Full, NoRoute, To
 use Rattle.osi_base.specs.declared.unit.Offered.{Offered}
 use Rattle.osi_base.specs.declared.unit.Offered.TheVariants.{Taken as WasTaken, Dropped}
 use Rattle.osi_base.specs.declared.unit.Unit.{Unit as CarriedUnit}
-use Rattle.lan_bag.specs.Bag.{Bag}
-use Rattle.lan_bag.specs.Offers.{live_count}
-use Rattle.lan_bag.specs.Rows.{sender_of}
-use Rattle.lan_bag.specs.declared.setup.PortRow.{PortRow}
+use Rattle.lan_step.specs.Bag.{Bag}
+use Rattle.lan_step.specs.Offers.{live_count}
+use Rattle.lan_step.specs.Rows.{sender_of}
+use Rattle.lan_step.specs.declared.row.PortRow.{PortRow}
 use Rattle.inactive_step.specs.declared.row.InactiveRow.{InactiveRow}
 use Rattle.inactive_step.specs.declared.row.Way.{Way}
 

@@ -1,7 +1,7 @@
 -- What is always so of a network over LANs: all that it holds was read from octets, or may be written (X.233, Inactive Network Layer
 -- Protocol subset; IEEE 802.3, MAC frame structure).
 use Rattle.std.specs.List.{AllByRecursion}
-use Rattle.lan_bag.specs.Bag.{Bag, link_of}
+use Rattle.lan_step.specs.Bag.{Bag, link_of}
 use Rattle.inactive_step.specs.declared.row.InactiveRow.{InactiveRow}
 use Rattle.inactive_step.specs.Network.{Inactive}
 use Rattle.inactive_step.specs.Sound.{IsSound}

@@ -39,7 +39,7 @@ use Rattle.law_tp4_history.proofs.Tracked.{GrowsTrack, Hears, HearsIn, grows_sam
 use Rattle.law_tp4_moves.specs.Lines.{AreSentIn, Begun, CarriesItsUnit, Flowed, Going, IsIn, IsKnownEvent, IsKnownTpdu, IsSentIn, IsTimely, LinesGoOn, LinesStay, Stands, Still, given}
 use Rattle.law_tp4_moves.specs.Seen.{IsNumbered, seen}
 use Rattle.law_tp4_pair.specs.Pair.{tick_of}
-use Rattle.law_tp4_pair.specs.steps.Waiting.{IsDataFor}
+use Rattle.law_tp4_pair.specs.Waiting.{IsDataFor}
 use Rattle.law_recovery_going.specs.Fitting.{AllShort}
 use Rattle.law_recovery_going.proofs.Rows.{IsHolding, call_does, data_does, tick_does}
 use Rattle.law_recovery_fitting.specs.Lined.{IsSide}

@@ -18,8 +18,8 @@ use Rattle.law_tp4_history.specs.Ends.{Terms, Times}
 use Rattle.law_tp4_history.specs.Tracks.{Track, clocked}
 use Rattle.law_tp4_moves.specs.Lines.{AreSentIn, Stands}
 use Rattle.law_tp4_pair.specs.Pair.{Asks_called, Asks_calling, Clock, Comes_back, Comes_forth, Happening, IsIdle, Leads, May, Pair, comes_back, comes_forth, next, tick_of}
-use Rattle.law_tp4_pair.specs.steps.Standing.{HasLeft, party}
-use Rattle.law_tp4_pair.specs.steps.Waiting.{AreData}
+use Rattle.law_tp4_pair.specs.Standing.{HasLeft, party}
+use Rattle.law_tp4_pair.specs.Waiting.{AreData}
 use Rattle.law_recovery_steps.specs.Beginning.{AreAgreed}
 use Rattle.law_recovery_steps.specs.Known.{AreKnown}
 use Rattle.law_recovery_steps.specs.Resting.{AreBegun}

@@ -8,7 +8,7 @@ use Rattle.tp4_conn.specs.declared.states.InOpened.{InOpened}
 use Rattle.tp4_conn.specs.declared.states.StateData.TheVariants.{Opened}
 use Rattle.law_tp4_pair.specs.Claim.{HasShown}
 use Rattle.law_tp4_pair.specs.Pair.{IsIdle, Pair}
-use Rattle.law_tp4_pair.specs.steps.Standing.{HasLeft}
+use Rattle.law_tp4_pair.specs.Standing.{HasLeft}
 use Rattle.law_recovery_steps.specs.Steps.{IsParted}
 use Rattle.law_recovery_going.specs.Going.{AreBothLeft, AreBothOpened}
 use Rattle.tp4_world.specs.World.{World}

@@ -18,7 +18,7 @@ use Rattle.tp4_conn.specs.Living.{IsInTime}
 use Rattle.tp4_conn.specs.Matching.{sum_agreed}
 use Rattle.tp4_conn.specs.Table.{Ticked, at, due, on_call, on_tick, on_tpdu, stepped, takes, untaken}
 use Rattle.law_tp4_pair.specs.Pair.{tick_of}
-use Rattle.law_tp4_pair.specs.steps.Standing.{HasLeft, party}
+use Rattle.law_tp4_pair.specs.Standing.{HasLeft, party}
 use Rattle.law_tp4_pair.proofs.Handing.{has_sum}
 use Rattle.law_recovery_ends.specs.Due.{IsUndue}
 use Rattle.law_recovery_ends.proofs.Due.{undue}

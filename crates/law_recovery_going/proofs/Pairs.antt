@@ -18,7 +18,7 @@ use Rattle.tp4_conn.specs.Living.{IsInTime}
 use Rattle.tp4_conn.specs.Matching.{sum_agreed}
 use Rattle.tp4_conn.specs.Table.{Called, Took, at, due, on_call, stepped, takes}
 use Rattle.law_tp4_pair.specs.Pair.{Asks_called, Asks_calling, Clock, Comes_back, Comes_forth, Happening, IsIdle, Leads, May, Pair, asks_called, asks_calling, comes_back, comes_forth, next, tick_of}
-use Rattle.law_tp4_pair.specs.steps.Standing.{party}
+use Rattle.law_tp4_pair.specs.Standing.{party}
 use Rattle.law_recovery_pair.specs.Riding.{road_of}
 use Rattle.law_recovery_ends.specs.Due.{AreYoung}
 use Rattle.law_recovery_ends.proofs.Due.{undue}

@@ -18,7 +18,7 @@ use Rattle.tp4_conn.specs.Matching.{sum_agreed}
 use Rattle.tp4_conn.specs.Opened.{dt_as, hearing, is_expedited, opened_tpdu, protocol_error, receiving}
 use Rattle.tp4_conn.specs.Table.{Called, Took, at, stepped, takes}
 use Rattle.law_tp4_pair.specs.Pair.{Asks_called, Asks_calling, Clock, Comes_back, Comes_forth, Happening, IsIdle, Leads, May, Pair, comes_back, comes_forth, next}
-use Rattle.law_tp4_pair.specs.steps.Standing.{HasLeft}
+use Rattle.law_tp4_pair.specs.Standing.{HasLeft}
 use Rattle.law_tp4_pair.proofs.Leaving.{stays_left}
 use Rattle.law_tp4_pair.proofs.Pairs.{tick_left}
 use Rattle.law_recovery_going.specs.Going.{AreBothLeft}

@@ -24,8 +24,8 @@ use Rattle.tp4_conn.specs.declared.states.StateData.TheVariants.{Opened}
 use Rattle.tp4_conn.specs.End.{Moved, agreed_sum, closing, gone}
 use Rattle.tp4_conn.specs.Opened.{acking, dt_as, granting, hearing, is_expedited, opened_as, opened_goes, opened_tick, opened_tpdu, protocol_error, receiving, sending}
 use Rattle.tp4_conn.specs.Table.{on_call}
-use Rattle.law_tp4_pair.specs.steps.Standing.{HasLeft}
-use Rattle.law_tp4_pair.specs.steps.Waiting.{IsDataFor}
+use Rattle.law_tp4_pair.specs.Standing.{HasLeft}
+use Rattle.law_tp4_pair.specs.Waiting.{IsDataFor}
 use Rattle.law_recovery_going.specs.Going.{IsDisconnect, IsWrong}
 use Rattle.law_recovery_going.proofs.Trying.{HaveTried, acknowledged_kept, done_kept, submitted_kept, ticked_kept, urged_kept}
 

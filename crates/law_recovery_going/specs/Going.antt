@@ -18,7 +18,7 @@ use Rattle.tp4_conn.specs.End.{End, closing, gone}
 use Rattle.tp4_conn.specs.Opened.{is_expedited}
 use Rattle.tp4_conn.specs.Table.{Ticked, at, stepped}
 use Rattle.law_tp4_pair.specs.Pair.{Asks_called, Asks_calling, Clock, Comes_back, Comes_forth, Happening, IsIdle, Leads, Pair, next}
-use Rattle.law_tp4_pair.specs.steps.Standing.{HasLeft}
+use Rattle.law_tp4_pair.specs.Standing.{HasLeft}
 use Rattle.law_recovery_steps.specs.Resting.{AreLater}
 use Rattle.law_recovery_steps.specs.Steps.{IsParted}
 pub use Rattle.law_recovery_going.specs.Causes.{IsCause, IsTryOf}

@@ -39,7 +39,7 @@ use Rattle.tp4_entity.specs.Step.{call_of, connecting, is_due}
 use Rattle.tp4_entity.proofs.Standings.{free_least, within}
 use Rattle.law_tp4_history.specs.Tracks.{Whole}
 use Rattle.law_tp4_moves.specs.Moves.{IsAnswering, IsSeenIn}
-use Rattle.law_tp4_pair.specs.steps.Standing.{HasLeft}
+use Rattle.law_tp4_pair.specs.Standing.{HasLeft}
 use Rattle.law_tp4_pair.proofs.Opening.{confirm_sum}
 use Rattle.tp4_world.specs.World.{World, entity_at, with_entity}
 use Rattle.law_tp4_associations.proofs.Dues.{none_due}

@@ -31,7 +31,7 @@ use Rattle.tp4_entity.proofs.Standings.{free_least, within}
 use Rattle.law_tp4_history.specs.Tracks.{Whole}
 use Rattle.law_tp4_moves.specs.Moves.{AreOwn, HasSource, IsAnswering, IsOpened, IsSeenIn, stop_of}
 use Rattle.law_tp4_moves.specs.Seen.{seen}
-use Rattle.law_tp4_pair.specs.steps.Standing.{HasLeft}
+use Rattle.law_tp4_pair.specs.Standing.{HasLeft}
 use Rattle.tp4_world.specs.Telling.{ends_after}
 use Rattle.tp4_world.specs.World.{World, end_numbered, entity_at, latest, with_entity}
 use Rattle.tp4_world.specs.declared.place.EndAt.{EndAt}

@@ -28,7 +28,7 @@ use Rattle.law_tp4_history.specs.Ends.{Times}
 use Rattle.law_tp4_history.specs.Journals.{Written}
 use Rattle.law_tp4_history.specs.Tracks.{IsNothing, Whole}
 use Rattle.law_tp4_proper.specs.Rest.{AreInTime, AreProper}
-use Rattle.law_tp4_pair.specs.steps.Standing.{HasLeft}
+use Rattle.law_tp4_pair.specs.Standing.{HasLeft}
 use Rattle.tp4_world.specs.World.{World}
 use Rattle.law_tp4_associations.proofs.Dues.{none_due}
 use Rattle.law_tp4_lawful.specs.Called.{AreHonestCalls}

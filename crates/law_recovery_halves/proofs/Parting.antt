@@ -32,7 +32,7 @@ use Rattle.law_tp4_history.proofs.Written.{written_reached}
 use Rattle.law_tp4_moves.specs.Moves.{IsAsked, IsClosing, IsSeenIn, times_of}
 use Rattle.law_tp4_moves.specs.Seen.{terms_of}
 use Rattle.law_tp4_moves.proofs.Beginnings.{fit_times}
-use Rattle.law_tp4_pair.specs.steps.Standing.{HasLeft}
+use Rattle.law_tp4_pair.specs.Standing.{HasLeft}
 use Rattle.tp4_world.specs.World.{World, latest}
 use Rattle.tp4_world.proofs.Addressees.{either}
 use Rattle.law_tp4_lawful.proofs.FramesKnown.{number_at}

@@ -17,7 +17,7 @@ use Rattle.law_tp4_history.specs.Tracks.{Whole}
 use Rattle.law_tp4_history.proofs.Meets.{swap}
 use Rattle.law_tp4_history.proofs.Sound.{OwnFacts, Sound, one_partner, partner_low}
 use Rattle.law_tp4_moves.specs.Moves.{stop_of, times_of, HasSource}
-use Rattle.law_tp4_pair.specs.steps.Standing.{HasLeft}
+use Rattle.law_tp4_pair.specs.Standing.{HasLeft}
 use Rattle.tp4_world.specs.World.{World, end_numbered, entity_at, latest}
 use Rattle.tp4_world.specs.declared.place.EndAt.{EndAt}
 use Rattle.law_tp4_lawful.proofs.FramesKnown.{number_at}

@@ -28,7 +28,7 @@ use Rattle.tp4_entity.proofs.Formats.{format_is}
 use Rattle.law_tp4_history.specs.Tracks.{Whole}
 use Rattle.law_tp4_moves.specs.Moves.{HasSource, IsSourced, Sees, stop_of, times_of}
 use Rattle.law_tp4_moves.specs.Seen.{seen}
-use Rattle.law_tp4_pair.specs.steps.Standing.{HasLeft}
+use Rattle.law_tp4_pair.specs.Standing.{HasLeft}
 use Rattle.tp4_world.specs.World.{World, entity_at}
 use Rattle.law_tp4_lawful.proofs.Known.{IsKnown, IsReadAs, IsThere}
 use Rattle.law_tp4_lawful.proofs.Worlds.{Explains}

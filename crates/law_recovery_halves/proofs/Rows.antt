@@ -33,7 +33,7 @@ use Rattle.tp4_conn.specs.declared.states.InOpened.{InOpened}
 use Rattle.tp4_conn.specs.declared.states.InWaitBeforeClose.{InWaitBeforeClose}
 use Rattle.tp4_conn.specs.declared.states.StateData.{StateData}
 use Rattle.tp4_conn.specs.declared.states.StateData.TheVariants as stages
-use Rattle.law_tp4_pair.specs.steps.Standing.{HasLeft}
+use Rattle.law_tp4_pair.specs.Standing.{HasLeft}
 use Rattle.tp4_world.proofs.Addressees.{all_append, either}
 use Rattle.law_recovery_run.specs.Aside.{Names}
 use Rattle.law_recovery_walk.specs.Following.{IsBy}

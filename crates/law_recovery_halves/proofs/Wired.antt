@@ -16,7 +16,7 @@ use Rattle.tp4_conn.specs.declared.timers.Timers.{Timers}
 use Rattle.tp4_entity.specs.Association.{is_frozen}
 use Rattle.tp4_entity.specs.Entity.{Entity, end_at}
 use Rattle.tp4_entity.specs.Wire.{entity_on_wire}
-use Rattle.law_tp4_pair.specs.steps.Standing.{HasLeft}
+use Rattle.law_tp4_pair.specs.Standing.{HasLeft}
 use Rattle.tp4_world.specs.First.{HasNoEnd}
 use Rattle.tp4_world.specs.Laws.{WholeLine, WholeRun}
 use Rattle.tp4_world.specs.Wire.{world_on_wire}

@@ -44,7 +44,7 @@ use Rattle.law_tp4_moves.specs.Lines.{IsReceivingAt, IsSendingAt}
 use Rattle.law_tp4_moves.specs.Moves.{times_of}
 use Rattle.law_tp4_moves.specs.Seen.{terms_of}
 use Rattle.law_tp4_pair.specs.Pair.{Account}
-use Rattle.law_tp4_pair.specs.steps.Flowing.{HasUnit}
+use Rattle.law_tp4_pair.specs.Flowing.{HasUnit}
 use Rattle.law_recovery_ends.specs.Resting.{WasReached}
 use Rattle.law_recovery_steps.specs.Beginning.{IsFull}
 use Rattle.law_recovery_steps.specs.Known.{IsKnownAt}

@@ -13,7 +13,7 @@ use Rattle.script_journal.specs.declared.event.Event.{Event}
 use Rattle.law_tp4_history.specs.Tracks.{Whole}
 use Rattle.law_tp4_moves.specs.Moves.{AreOwn}
 use Rattle.law_tp4_pair.specs.Pair.{Pair, back_units, forth_units}
-use Rattle.law_tp4_pair.specs.steps.Standing.{IsAgreed, party}
+use Rattle.law_tp4_pair.specs.Standing.{IsAgreed, party}
 use Rattle.law_recovery_steps.specs.Beginning.{AreAgreed}
 use Rattle.law_recovery_steps.specs.Known.{AreKnown}
 use Rattle.tp4_world.specs.World.{World}

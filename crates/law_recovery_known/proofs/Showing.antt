@@ -12,7 +12,7 @@ use Rattle.tp4_conn.specs.declared.timers.Timers.{Timers}
 use Rattle.law_tp4_pair.specs.Claim.{HasShown}
 use Rattle.law_tp4_pair.specs.Pair.{Pair, back_units, forth_units}
 use Rattle.law_tp4_pair.specs.Telling.{Tells}
-use Rattle.law_tp4_pair.specs.steps.Rest.{AreAtRest}
+use Rattle.law_tp4_pair.specs.Rest.{AreAtRest}
 use Rattle.law_tp4_pair.proofs.ShownIn.{end_quiet, shows_in}
 use Rattle.law_recovery_steps.specs.Resting.{AreLater}
 use Rattle.law_recovery_steps.specs.Steps.{IsParted}

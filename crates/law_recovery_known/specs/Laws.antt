@@ -14,7 +14,7 @@ use Rattle.script_journal.specs.declared.event.Event.{Event}
 use Rattle.law_tp4_history.specs.Ends.{Terms, Times}
 use Rattle.law_tp4_pair.specs.Claim.{HasShown}
 use Rattle.law_tp4_pair.specs.Pair.{Account, Clock, Happening, IsIdle, Leads, Pair}
-use Rattle.law_tp4_pair.specs.steps.Rest.{AreAtRest}
+use Rattle.law_tp4_pair.specs.Rest.{AreAtRest}
 use Rattle.law_recovery_steps.specs.Beginning.{AreAgreed}
 use Rattle.law_recovery_steps.specs.Known.{AreKnown, IsKnownAt}
 use Rattle.law_recovery_steps.specs.Resting.{AreLater}

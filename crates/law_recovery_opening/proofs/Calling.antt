@@ -30,8 +30,8 @@ use Rattle.tp4_conn.specs.End.{IsSized, Moved, agreed_sum, closing, gone}
 use Rattle.tp4_conn.specs.Matching.{wants_sum}
 use Rattle.tp4_conn.specs.Opened.{hearing, opened_as, opened_tick, opened_tpdu}
 use Rattle.tp4_conn.specs.Table.{at as now_at, on_call, on_tpdu, takes, untaken}
-use Rattle.law_tp4_pair.specs.steps.Standing.{HasLeft, Party}
-use Rattle.law_tp4_pair.specs.steps.Waiting.{AreData, View, aks_in, dts_in, eas_in, eds_in}
+use Rattle.law_tp4_pair.specs.Standing.{HasLeft, Party}
+use Rattle.law_tp4_pair.specs.Waiting.{AreData, View, aks_in, dts_in, eas_in, eds_in}
 use Rattle.law_tp4_pair.proofs.Handing.{has_sum}
 use Rattle.law_tp4_pair.proofs.Opening.{confirm_sum}
 use Rattle.law_tp4_pair.proofs.Wires.{aks_then, data_then, dts_then, eas_then, eds_then}

@@ -27,8 +27,8 @@ use Rattle.tp4_conn.specs.AkWait.{ak_wait_tpdu}
 use Rattle.tp4_conn.specs.End.{Moved, led_by}
 use Rattle.tp4_conn.specs.Opened.{opened_tpdu}
 use Rattle.tp4_conn.specs.Table.{at as now_at, on_tpdu, takes, untaken}
-use Rattle.law_tp4_pair.specs.steps.Standing.{Party, party}
-use Rattle.law_tp4_pair.specs.steps.Waiting.{AreData, View, aks_in, dts_in, eas_in, eds_in}
+use Rattle.law_tp4_pair.specs.Standing.{Party, party}
+use Rattle.law_tp4_pair.specs.Waiting.{AreData, View, aks_in, dts_in, eas_in, eds_in}
 use Rattle.law_tp4_pair.proofs.Handing.{has_sum}
 use Rattle.law_recovery_steps.specs.Directions.{Rides, RidesOn}
 use Rattle.law_recovery_steps.specs.Sending.{GoesOut, IsFed}

@@ -8,8 +8,8 @@ use Rattle.tp4_conn.specs.declared.states.StateData.TheVariants.{AkWait, Opened}
 use Rattle.tp4_conn.specs.Living.{IsInTime}
 use Rattle.tp4_conn.specs.Table.{due}
 use Rattle.law_tp4_pair.specs.Pair.{Clock, Happening, IsIdle, Leads, Pair, back_units, forth_units, next}
-use Rattle.law_tp4_pair.specs.steps.Rest.{AreAtRest}
-use Rattle.law_tp4_pair.specs.steps.Standing.{party}
+use Rattle.law_tp4_pair.specs.Rest.{AreAtRest}
+use Rattle.law_tp4_pair.specs.Standing.{party}
 use Rattle.law_recovery_steps.specs.Resting.{AreLater, AreLevel, HaveWindow}
 use Rattle.law_recovery_steps.specs.Showing.{AreCarried}
 use Rattle.law_recovery_steps.specs.Steps.{AreRiding, IsParted, IsRiding, Since}

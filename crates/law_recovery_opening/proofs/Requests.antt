@@ -24,7 +24,7 @@ use Rattle.tp4_entity.specs.Association.{calls, is_called, is_registered, met, n
 use Rattle.tp4_entity.specs.Entity.{Entity}
 use Rattle.tp4_entity.specs.References.{least_free}
 use Rattle.law_tp4_pair.specs.Pair.{Asks_called, Asks_calling, Clock, Comes_back, Comes_forth, Happening, Leads, May, Pair, clocked, comes_back, comes_forth, next, tick_of}
-use Rattle.law_tp4_pair.specs.steps.Standing.{HasLeft}
+use Rattle.law_tp4_pair.specs.Standing.{HasLeft}
 use Rattle.law_tp4_pair.proofs.Confirming.{indicates}
 use Rattle.law_recovery_steps.specs.Steps.{IsParted}
 use Rattle.law_recovery_steps.proofs.Pairs.{parted_after}

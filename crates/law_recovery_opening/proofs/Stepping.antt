@@ -16,7 +16,7 @@ use Rattle.tp4_conn.specs.End.{End, Moved, end_of}
 use Rattle.tp4_conn.specs.Table.{Called, Took, at as now_at, on_call, stepped, takes}
 use Rattle.law_tp4_moves.specs.Lines.{given, shown_in}
 use Rattle.law_tp4_pair.specs.Pair.{Asks_called, Asks_calling, Clock, Comes_back, Comes_forth, Happening, IsIdle, Leads, May, Pair, asks_called, asks_calling, clocked, comes_back, comes_forth, next, tick_of}
-use Rattle.law_tp4_pair.specs.steps.Standing.{HasLeft, Party, party}
+use Rattle.law_tp4_pair.specs.Standing.{HasLeft, Party, party}
 use Rattle.law_recovery_steps.specs.Steps.{AreRiding, IsParted, IsRiding, RidesOnward, Since}
 use Rattle.law_recovery_steps.proofs.Pairs.{parted_after, steps_on, turned}
 use Rattle.law_recovery_steps.proofs.Steps.{takes_onward}

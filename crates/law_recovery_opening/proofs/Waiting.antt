@@ -22,7 +22,7 @@ use Rattle.tp4_conn.specs.CrWait.{confirmed, cr_wait_tick}
 use Rattle.tp4_conn.specs.End.{End, Moved, agreed_sum, end_of}
 use Rattle.tp4_conn.specs.Table.{Called, at as now_at, on_call, on_tick, stepped, takes}
 use Rattle.law_tp4_pair.specs.Pair.{tick_of}
-use Rattle.law_tp4_pair.specs.steps.Standing.{HasLeft, Party, party}
+use Rattle.law_tp4_pair.specs.Standing.{HasLeft, Party, party}
 use Rattle.law_recovery_steps.specs.Steps.{AreRiding, Since, StaysOpen}
 use Rattle.law_recovery_steps.proofs.Directions.{clock_ride}
 use Rattle.law_recovery_steps.proofs.Pairs.{clock_riding, turned}

@@ -19,8 +19,8 @@ use Rattle.tp4_conn.specs.Table.{due, takes}
 use Rattle.tp4_entity.specs.Association.{met, refusal}
 use Rattle.tp4_entity.specs.Entity.{Entity}
 use Rattle.law_tp4_pair.specs.Pair.{Clock, Happening, IsIdle, Leads, May, Pair, back_units, forth_units, next}
-use Rattle.law_tp4_pair.specs.steps.Rest.{AreAtRest}
-use Rattle.law_tp4_pair.specs.steps.Standing.{HasLeft, Party, party}
+use Rattle.law_tp4_pair.specs.Rest.{AreAtRest}
+use Rattle.law_tp4_pair.specs.Standing.{HasLeft, Party, party}
 use Rattle.law_recovery_steps.specs.Resting.{AreLater, AreLevel, HaveWindow}
 use Rattle.law_recovery_steps.specs.Showing.{AreCarried}
 use Rattle.law_recovery_steps.specs.Steps.{AreRiding, IsParted, RidesOnward, Since}

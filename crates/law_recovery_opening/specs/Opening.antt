@@ -15,7 +15,7 @@ use Rattle.tp4_conn.specs.End.{End, IsSized}
 use Rattle.law_recovery_pair.specs.Viewing.{IsWithin}
 use Rattle.law_recovery_steps.specs.Resting.{AreBegun}
 use Rattle.law_tp4_pair.specs.Pair.{IsIdle, Pair}
-use Rattle.law_tp4_pair.specs.steps.Standing.{Party, party}
+use Rattle.law_tp4_pair.specs.Standing.{Party, party}
 
 -- ---- the called end
 

@@ -14,7 +14,7 @@ use Rattle.tp4_conn.specs.Agreeing.{confirm}
 use Rattle.tp4_conn.specs.End.{End, IsSized}
 use Rattle.law_recovery_steps.specs.Steps.{AreRiding, Since}
 use Rattle.law_tp4_pair.specs.Pair.{Pair}
-use Rattle.law_tp4_pair.specs.steps.Standing.{Party, party}
+use Rattle.law_tp4_pair.specs.Standing.{Party, party}
 use Rattle.law_recovery_opening.specs.Opening.{Calls, IsQueued, KnowsCc, as_opened}
 
 abbrev pub IsCr : Tpdu → Type 0

@@ -23,10 +23,10 @@ use Rattle.tp4_conn.specs.declared.states.StateData.TheVariants.{AkWait, CrWait,
 use Rattle.tp4_conn.specs.declared.timers.Timers.{Timers}
 use Rattle.law_tp4_proper.proofs.Ends.{waits}
 use Rattle.law_tp4_pair.specs.Pair.{Asks_called, Pair, next}
-use Rattle.law_tp4_pair.specs.steps.Flowing.{IsOrdered}
-use Rattle.law_tp4_pair.specs.steps.Pairs.{IsPairOf}
-use Rattle.law_tp4_pair.specs.steps.Rest.{AreAtRest}
-use Rattle.law_tp4_pair.specs.steps.Standing.{Both, Confirming, First, HasLeft, Left, Stands}
+use Rattle.law_tp4_pair.specs.Flowing.{IsOrdered}
+use Rattle.law_tp4_pair.specs.Pairs.{IsPairOf}
+use Rattle.law_tp4_pair.specs.Rest.{AreAtRest}
+use Rattle.law_tp4_pair.specs.Standing.{Both, Confirming, First, HasLeft, Left, Stands}
 use Rattle.law_tp4_pair.proofs.Pairs.{stands_after}
 use Rattle.law_tp4_pair.proofs.Resting.{accepts_stands, pair_rests}
 use Rattle.tp4_world.specs.World.{World}

@@ -25,8 +25,8 @@ use Rattle.tp4_conn.specs.declared.states.InOpened.{InOpened}
 use Rattle.tp4_conn.specs.declared.states.StateData.{StateData}
 use Rattle.tp4_conn.specs.declared.states.StateData.TheVariants.{AkWait, CrWait, Opened}
 use Rattle.law_tp4_pair.specs.Pair.{Accepts, Asks_called, Asks_calling, back_units, forth_units, Clock, Comes_back, Comes_forth, Happening, IsIdle, Leads, May, Pair, comes_back, comes_forth, next, tick_of}
-use Rattle.law_tp4_pair.specs.steps.Standing.{AreBoth, Both, Confirming, First, HasLeft, Left, Stands, party}
-use Rattle.law_tp4_pair.specs.steps.Waiting.{AreData, IsDataFor}
+use Rattle.law_tp4_pair.specs.Standing.{AreBoth, Both, Confirming, First, HasLeft, Left, Stands, party}
+use Rattle.law_tp4_pair.specs.Waiting.{AreData, IsDataFor}
 use Rattle.law_tp4_pair.proofs.Handing.{has_sum}
 use Rattle.law_tp4_pair.proofs.Pairs.{stands_on}
 use Rattle.law_tp4_pair.proofs.Resting.{accepts_stands}

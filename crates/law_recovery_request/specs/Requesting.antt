@@ -22,7 +22,7 @@ use Rattle.tp4_entity.specs.Association.{refusal}
 use Rattle.tp4_entity.specs.Entity.{Entity, end_at}
 use Rattle.law_tp4_moves.specs.Moves.{HasSource}
 use Rattle.law_tp4_moves.specs.Seen.{seen}
-use Rattle.law_tp4_pair.specs.steps.Standing.{HasLeft}
+use Rattle.law_tp4_pair.specs.Standing.{HasLeft}
 use Rattle.tp4_world.specs.Run.{Settles}
 use Rattle.tp4_world.specs.World.{World, entity_at}
 use Rattle.law_calm_run.proofs.Hall.{Hall, Post}

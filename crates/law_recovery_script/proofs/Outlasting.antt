@@ -21,7 +21,7 @@ use Rattle.tp4_entity.specs.References.{least_free}
 use Rattle.tp4_entity.specs.Step.{kept_end}
 use Rattle.tp4_entity.proofs.Standings.{free_least, within}
 use Rattle.law_tp4_history.specs.Tracks.{Whole}
-use Rattle.law_tp4_pair.specs.steps.Standing.{HasLeft}
+use Rattle.law_tp4_pair.specs.Standing.{HasLeft}
 use Rattle.law_tp4_pair.proofs.Leaving.{stays_left}
 use Rattle.tp4_world.proofs.Having.{with_first, with_other}
 use Rattle.tp4_world.specs.World.{World, end_numbered, entity_at, latest, with_entity}

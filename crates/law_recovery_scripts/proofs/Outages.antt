@@ -4,8 +4,8 @@ use Rattle.std.proofs.Common.{ℕ, List, [], ◌∷◌, ◌++◌, None, refl, sy
 use Rattle.std.specs.List.{AllByRecursion}
 use Rattle.nsap.specs.declared.port.Port.{Port}
 use Rattle.osi_base.specs.Link.{IsLeastFresh}
-use Rattle.lan_bag.specs.Bag.{BagStep, link_of, new_bag}
-use Rattle.lan_bag.specs.declared.setup.PortRow.{PortRow}
+use Rattle.lan_step.specs.Bag.{BagStep, link_of, new_bag}
+use Rattle.lan_step.specs.declared.row.PortRow.{PortRow}
 use Rattle.esis_tables.specs.Rows.{Rows}
 use Rattle.clnp_system.specs.Node.{Node}
 use Rattle.clnp_system.specs.Setting.{Setting}

@@ -6,10 +6,10 @@ use Rattle.nsap.specs.declared.port.Port.{Port}
 use Rattle.osi_base.specs.Gathering.{Gathers}
 use Rattle.osi_base.specs.Link.{IsLeastFresh}
 use Rattle.osi_base.specs.declared.unit.Up.{Up}
-use Rattle.lan_bag.specs.Bag.{Bag, BagStep, link_of, new_bag}
-use Rattle.lan_bag.specs.Frames.{Frame, kept}
-use Rattle.lan_bag.specs.declared.setup.Lan.{Lan}
-use Rattle.lan_bag.specs.declared.setup.PortRow.{PortRow}
+use Rattle.lan_step.specs.Bag.{Bag, BagStep, link_of, new_bag}
+use Rattle.lan_step.specs.Frames.{Frame, kept}
+use Rattle.lan_step.specs.declared.row.Lan.{Lan}
+use Rattle.lan_step.specs.declared.row.PortRow.{PortRow}
 use Rattle.lan_bag.specs.steps.Openings.{IsClosedTo, is_open}
 use Rattle.lan_bag.proofs.Openings.{none_fresh}
 use Rattle.clnp_system.specs.Setting.{Setting}

@@ -1,7 +1,7 @@
 -- What was set up by a script of two end systems on one LAN is such a network, and its lines after the start are a run that recovers. So what is claimed of each run of such networks is claimed of
 -- the script.
 use Rattle.std.proofs.Common.{◌≡◌, ◌<◌, ℕ, List, [], ◌∷◌, ◌++◌, refl, sym, ◌∙◌, ap, subst, append_assoc}
-use Rattle.lan_bag.specs.Bag.{BagStep, link_of, new_bag}
+use Rattle.lan_step.specs.Bag.{BagStep, link_of, new_bag}
 use Rattle.esis_tables.specs.Rows.{Rows}
 use Rattle.clnp_system.specs.Node.{Node}
 use Rattle.clnp_system.specs.Tables.{rows_tables}

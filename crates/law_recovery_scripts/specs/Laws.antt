@@ -1,7 +1,7 @@
 -- Laws of scripts whose networks lose nothing any more (X.213, queue model of the network connectionless-mode service; X.214, queue model of the transport service).
 use Rattle.std.specs.Prelude.{ℕ, List}
 use Rattle.nsap.specs.declared.port.Port.{Port}
-use Rattle.lan_bag.specs.declared.setup.PortRow.{PortRow}
+use Rattle.lan_step.specs.declared.row.PortRow.{PortRow}
 use Rattle.clnp_system.specs.Setting.{Setting}
 use Rattle.law_clnp_fifo.specs.Calm.{IsCalmNet, titles_of}
 use Rattle.law_clnp_fifo.specs.Reached.{Reached}

@@ -20,8 +20,8 @@ use Rattle.tp4_sending.specs.Kept.{urgent_base}
 use Rattle.tp4_sending.specs.Pieces.{cut_at, end_of, is_due}
 use Rattle.tp4_sending.specs.declared.tries.Tries.{Tries}
 use Rattle.law_recovery_pair.specs.Riding.{rules_by}
-use Rattle.law_tp4_pair.specs.steps.Flowing.{HasUnit}
-use Rattle.law_tp4_pair.specs.steps.Waiting.{eds_in}
+use Rattle.law_tp4_pair.specs.Flowing.{HasUnit}
+use Rattle.law_tp4_pair.specs.Waiting.{eds_in}
 use Rattle.law_tp4_pair.proofs.Wires.{eds_then}
 use Rattle.law_recovery_steps.specs.Asking.{AsksOut, GoesUrgently, IsAskedBy, UrgentAside, asked_aside, urgent_road}
 use Rattle.law_recovery_steps.specs.Sending.{dts_on}

@@ -23,7 +23,7 @@ use Rattle.law_recovery_pair.specs.Riding.{Aside, GoesOn, road_of, rules_by, sai
 use Rattle.law_recovery_pair.proofs.Fitting.{dt_fits, grant_fits}
 use Rattle.law_recovery_pair.proofs.RidingReceives.{ak_move, clock_move, dt_move, grant_move}
 use Rattle.law_recovery_pair.proofs.RidingSends.{moves_then}
-use Rattle.law_tp4_pair.specs.steps.Waiting.{View, aks_in}
+use Rattle.law_tp4_pair.specs.Waiting.{View, aks_in}
 use Rattle.law_recovery_steps.specs.Directions.{Rides, RidesOn}
 use Rattle.law_recovery_steps.specs.Sending.{GoesOut, IsFed, aks_on, dts_on}
 use Rattle.law_recovery_steps.proofs.Settling.{ak_settles, calls_settle}

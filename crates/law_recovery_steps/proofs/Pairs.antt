@@ -9,7 +9,7 @@ use Rattle.tp4_conn.specs.declared.states.StateData.TheVariants.{Opened}
 use Rattle.tp4_conn.specs.End.{End, Moved}
 use Rattle.tp4_conn.specs.Table.{Called, Took, at, on_call, on_tick, stepped, takes}
 use Rattle.law_tp4_pair.specs.Pair.{Asks_called, Asks_calling, Clock, Comes_back, Comes_forth, Happening, IsIdle, Leads, May, Pair, asks_called, asks_calling, clocked, comes_back, comes_forth, next, tick_of}
-use Rattle.law_tp4_pair.specs.steps.Standing.{Party, party}
+use Rattle.law_tp4_pair.specs.Standing.{Party, party}
 use Rattle.law_tp4_pair.proofs.Leaving.{stays_left}
 use Rattle.law_tp4_pair.proofs.Pairs.{tick_left}
 use Rattle.law_recovery_steps.specs.Steps.{AreRiding, IsParted, IsRiding, RidesOnward, Since, StaysOpen}

@@ -4,7 +4,7 @@ use Rattle.tp4_number.specs.Formats.{most_of}
 use Rattle.tp4_conn.specs.declared.states.InOpened.{InOpened}
 use Rattle.tp4_conn.specs.declared.states.StateData.TheVariants.{Opened}
 use Rattle.law_tp4_pair.specs.Pair.{Happening, IsIdle, Leads, Pair, back_units, forth_units}
-use Rattle.law_tp4_pair.specs.steps.Rest.{AreAtRest}
+use Rattle.law_tp4_pair.specs.Rest.{AreAtRest}
 use Rattle.law_recovery_steps.specs.Beginning.{AreAgreed}
 use Rattle.law_recovery_steps.specs.Known.{AreKnown}
 use Rattle.law_recovery_steps.specs.Resting.{AreLater, AreLevel, HaveWindow}

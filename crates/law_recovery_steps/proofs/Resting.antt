@@ -17,7 +17,7 @@ use Rattle.law_recovery_ends.specs.Resting.{AreUndue, IsNow, IsPast, WasReached}
 use Rattle.law_recovery_ends.proofs.Due.{undue}
 use Rattle.law_recovery_ends.proofs.Resting.{rest}
 use Rattle.law_tp4_pair.specs.Pair.{Asks_called, Asks_calling, Clock, Comes_back, Comes_forth, Happening, IsIdle, Leads, May, Pair, next}
-use Rattle.law_tp4_pair.specs.steps.Standing.{IsAgreed, party}
+use Rattle.law_tp4_pair.specs.Standing.{IsAgreed, party}
 use Rattle.law_tp4_pair.proofs.Resting.{level_rests}
 use Rattle.law_recovery_steps.specs.Directions.{Rides}
 use Rattle.tp4_number.specs.Expedited.{Ea_comes, Ed_comes, LeadsUrgently, Resends_ed, Sends_ed, Ticks, Urgent, UrgentEvent, quiet, urgently}

@@ -32,8 +32,8 @@ use Rattle.law_recovery_pair.proofs.Viewing.{told_is}
 use Rattle.law_recovery_ends.specs.Due.{AreTried}
 use Rattle.law_tp4_moves.proofs.FlowOut.{shown-append}
 use Rattle.law_tp4_moves.specs.Lines.{shown_in}
-use Rattle.law_tp4_pair.specs.steps.Carrying.{pieces_in}
-use Rattle.law_tp4_pair.specs.steps.Waiting.{AreData, View, aks_in, dts_in, eas_in}
+use Rattle.law_tp4_pair.specs.Carrying.{pieces_in}
+use Rattle.law_tp4_pair.specs.Waiting.{AreData, View, aks_in, dts_in, eas_in}
 use Rattle.law_tp4_pair.proofs.Carried.{pieces_then}
 use Rattle.law_tp4_pair.proofs.Wires.{aks_then, data_then, dts_then, eas_then}
 use Rattle.law_recovery_steps.specs.Sending.{AreCut, GoesOut, IsCutFrom, IsFed, aks_on, dts_on}

@@ -5,8 +5,8 @@ use Rattle.tp4_sending.specs.SendingHalf.{FlowSender}
 use Rattle.tp4_sending.specs.declared.tries.Tries.{Tries}
 use Rattle.script_journal.specs.Lawful.{expediteds}
 use Rattle.law_tp4_pair.specs.Pair.{Account, Pair, back_units, forth_units}
-use Rattle.law_tp4_pair.specs.steps.Carrying.{AreLeft, Carries}
-use Rattle.law_tp4_pair.specs.steps.Rest.{AreAtRest, IsAtRest, IsShown}
+use Rattle.law_tp4_pair.specs.Carrying.{AreLeft, Carries}
+use Rattle.law_tp4_pair.specs.Rest.{AreAtRest, IsAtRest, IsShown}
 use Rattle.law_tp4_pair.proofs.Resting.{shows}
 use Rattle.law_recovery_steps.specs.Resting.{AreLevel, IsLevel}
 use Rattle.law_recovery_steps.specs.Showing.{AreCarried}

@@ -25,8 +25,8 @@ use Rattle.tp4_conn.specs.declared.states.StateData.TheVariants.{Opened}
 use Rattle.tp4_conn.specs.End.{Moved, tell}
 use Rattle.tp4_conn.specs.Opened.{acking, dt_as, hearing, is_expedited, opened_as, opened_goes, opened_tick, opened_tpdu, protocol_error, receiving, sending}
 use Rattle.tp4_conn.specs.Table.{at as now_at, on_call, on_tick, on_tpdu, takes, untaken}
-use Rattle.law_tp4_pair.specs.steps.Standing.{Party, party}
-use Rattle.law_tp4_pair.specs.steps.Waiting.{AreData, View, aks_in, dts_in, eas_in, eds_in}
+use Rattle.law_tp4_pair.specs.Standing.{Party, party}
+use Rattle.law_tp4_pair.specs.Waiting.{AreData, View, aks_in, dts_in, eas_in, eds_in}
 use Rattle.law_tp4_pair.proofs.Acting.{agreed_on}
 use Rattle.law_tp4_pair.proofs.Handing.{has_sum, kept_fits, old_fits, outside_fits}
 use Rattle.law_tp4_pair.proofs.Wires.{aks_then, data_then, dts_then, eas_then, eds_then}

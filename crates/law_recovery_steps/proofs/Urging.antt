@@ -13,7 +13,7 @@ use Rattle.tp4_flow.specs.declared.rules.FlowRules.{FlowRules}
 use Rattle.tp4_flow.specs.declared.step.Sent.{Sent}
 use Rattle.tp4_sending.specs.SendingHalf.{FlowSender, Sendings, acknowledged, at, block_in, submitted, ticked, urged, urgent_done}
 use Rattle.law_recovery_pair.specs.Riding.{rules_by}
-use Rattle.law_tp4_pair.specs.steps.Waiting.{eas_in, eds_in}
+use Rattle.law_tp4_pair.specs.Waiting.{eas_in, eds_in}
 use Rattle.law_recovery_steps.specs.Asking.{AsksOut, GoesUrgently, UrgentAside, asked_aside, urgent_road}
 use Rattle.law_recovery_steps.specs.Sending.{dts_on}
 use Rattle.law_recovery_steps.specs.Urging.{Urges}

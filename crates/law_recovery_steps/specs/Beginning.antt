@@ -6,7 +6,7 @@ use Rattle.tp4_sending.specs.SendingHalf.{FlowSender}
 use Rattle.tp4_sending.specs.Pieces.{end_of}
 use Rattle.tp4_conn.specs.declared.states.InOpened.{InOpened}
 use Rattle.law_tp4_pair.specs.Pair.{Pair}
-use Rattle.law_tp4_pair.specs.steps.Standing.{IsAgreed, party}
+use Rattle.law_tp4_pair.specs.Standing.{IsAgreed, party}
 
 -- each number that was ever sent has a piece among those that are kept, or before them
 abbrev pub IsFull : FlowSender → Type 0

@@ -11,7 +11,7 @@ use Rattle.law_recovery_pair.specs.Fitting.{Fits}
 use Rattle.law_recovery_pair.specs.Riding.{Aside, GoesOn, road_of, rules_by}
 use Rattle.law_recovery_ends.specs.Due.{AreTried}
 use Rattle.law_tp4_moves.specs.Lines.{shown_in}
-use Rattle.law_tp4_pair.specs.steps.Waiting.{AreData, View, aks_in, dts_in, eas_in}
+use Rattle.law_tp4_pair.specs.Waiting.{AreData, View, aks_in, dts_in, eas_in}
 use Rattle.law_recovery_steps.specs.Sending.{IsFed, aks_on, dts_on}
 
 -- from a road on; a tick passes only where nothing waits, so what waits was sent at this tick. The receiver spoke last at tick `acked`

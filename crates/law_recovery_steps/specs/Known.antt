@@ -18,7 +18,7 @@ use Rattle.law_recovery_ends.specs.Resting.{WasReached}
 use Rattle.script_journal.specs.Lawful.{expediteds, normals}
 use Rattle.law_tp4_history.specs.Complete.{AllFull, Complete}
 use Rattle.law_tp4_pair.specs.Pair.{Account, IsIdle, Pair, back_units, forth_units}
-use Rattle.law_tp4_pair.specs.steps.Flowing.{IsOrdered}
+use Rattle.law_tp4_pair.specs.Flowing.{IsOrdered}
 
 -- One direction at a tick at which nothing waits, whatever was before: its traffic and its EDs were reached, what is known is in order, the receiver has its places, and
 -- the sender tried nothing later than now

@@ -20,11 +20,11 @@ use Rattle.tp4_conn.specs.declared.states.InOpened.{InOpened}
 use Rattle.tp4_conn.specs.declared.states.StateData.TheVariants.{Opened}
 use Rattle.tp4_conn.specs.Table.{at as at_tick, due, on_call, on_tick, takes}
 use Rattle.tp4_conn.specs.Living.{IsInTime}
-use Rattle.law_tp4_pair.specs.steps.Waiting.{View, aks_in, eas_in}
-use Rattle.law_tp4_pair.specs.steps.Standing.{Party, party}
+use Rattle.law_tp4_pair.specs.Waiting.{View, aks_in, eas_in}
+use Rattle.law_tp4_pair.specs.Standing.{Party, party}
 use Rattle.law_tp4_pair.specs.Pair.{Happening, Leads, May, Pair, next, IsIdle, Account, back_units, forth_units}
-use Rattle.law_tp4_pair.specs.steps.Rest.{AreAtRest, IsAtRest, IsShown}
-use Rattle.law_tp4_pair.specs.steps.Flowing.{HasUnit}
+use Rattle.law_tp4_pair.specs.Rest.{AreAtRest, IsAtRest, IsShown}
+use Rattle.law_tp4_pair.specs.Flowing.{HasUnit}
 use Rattle.law_recovery_steps.specs.Sending.{IsFed, GoesOut}
 use Rattle.law_recovery_steps.specs.Directions.{Rides, RidesOn}
 use Rattle.law_recovery_steps.specs.Steps.{Since, AreRiding, RidesOnward, IsRiding, IsParted}

@@ -18,9 +18,9 @@ use Rattle.tp4_conn.specs.Table.{due}
 use Rattle.law_recovery_ends.specs.Due.{AreTried}
 use Rattle.law_recovery_ends.specs.Resting.{IsPast}
 use Rattle.law_tp4_pair.specs.Pair.{IsIdle, Pair}
-use Rattle.law_tp4_pair.specs.steps.Flowing.{HasUnit}
-use Rattle.law_tp4_pair.specs.steps.Rest.{IsAtRest}
-use Rattle.law_tp4_pair.specs.steps.Standing.{IsAgreed, party}
+use Rattle.law_tp4_pair.specs.Flowing.{HasUnit}
+use Rattle.law_tp4_pair.specs.Rest.{IsAtRest}
+use Rattle.law_tp4_pair.specs.Standing.{IsAgreed, party}
 use Rattle.law_recovery_steps.specs.Asking.{IsAskedBy}
 use Rattle.law_recovery_steps.specs.Urging.{AreQuiet}
 use Rattle.law_recovery_steps.specs.Sending.{IsFed}

@@ -10,8 +10,8 @@ use Rattle.tp4_sending.specs.Pieces.{cut_at, end_of}
 use Rattle.law_recovery_pair.specs.Riding.{Aside, GoesOn, road_of, rules_by, sent_aside, sent_at}
 use Rattle.law_recovery_ends.specs.Due.{AreTried}
 use Rattle.law_tp4_moves.specs.Lines.{shown_in}
-use Rattle.law_tp4_pair.specs.steps.Carrying.{pieces_in}
-use Rattle.law_tp4_pair.specs.steps.Waiting.{AreData, View, aks_in, dts_in, eas_in}
+use Rattle.law_tp4_pair.specs.Carrying.{pieces_in}
+use Rattle.law_tp4_pair.specs.Waiting.{AreData, View, aks_in, dts_in, eas_in}
 
 -- there is a try for each number that is outstanding
 abbrev pub IsCounted : FlowSender → Type 0

@@ -9,8 +9,8 @@ use Rattle.tp4_conn.specs.declared.states.InOpened.{InOpened}
 use Rattle.tp4_conn.specs.declared.states.StateData.TheVariants.{Opened}
 use Rattle.tp4_conn.specs.End.{Moved}
 use Rattle.law_tp4_pair.specs.Pair.{Pair}
-use Rattle.law_tp4_pair.specs.steps.Standing.{HasLeft, IsAgreed, Party, party}
-use Rattle.law_tp4_pair.specs.steps.Waiting.{AreData, aks_in, dts_in, eas_in, eds_in}
+use Rattle.law_tp4_pair.specs.Standing.{HasLeft, IsAgreed, Party, party}
+use Rattle.law_tp4_pair.specs.Waiting.{AreData, aks_in, dts_in, eas_in, eds_in}
 use Rattle.law_recovery_steps.specs.Directions.{Rides}
 use Rattle.law_recovery_steps.specs.Urging.{Urges}
 

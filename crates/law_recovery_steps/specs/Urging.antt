@@ -6,8 +6,8 @@ use Rattle.tp4_flow.specs.ReceivingHalf.{Half}
 use Rattle.tp4_sending.specs.SendingHalf.{FlowSender, Sendings, block_in}
 use Rattle.tp4_sending.specs.Kept.{urgent_base}
 use Rattle.law_recovery_pair.specs.Riding.{rules_by}
-use Rattle.law_tp4_pair.specs.steps.Flowing.{HasUnit}
-use Rattle.law_tp4_pair.specs.steps.Waiting.{eds_in}
+use Rattle.law_tp4_pair.specs.Flowing.{HasUnit}
+use Rattle.law_tp4_pair.specs.Waiting.{eds_in}
 use Rattle.law_recovery_steps.specs.Asking.{GoesUrgently, IsAskedBy, UrgentAside, urgent_road}
 use Rattle.law_recovery_steps.specs.Sending.{dts_on}
 

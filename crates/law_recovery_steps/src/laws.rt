@@ -1,7 +1,7 @@
 //! Two Opened ends since when nothing is lost between them, step by step (X.224, class 4 state tables).
 
 ghost use Rattle.std.specs.Prelude.{ℕ};
-ghost use Rattle.law_tp4_pair.specs.steps.Standing.{Party};
+ghost use Rattle.law_tp4_pair.specs.Standing.{Party};
 ghost use Rattle.law_tp4_recovery.specs.Recovering.{Road};
 ghost use Rattle.law_tp4_recovery.specs.Urgent.{UrgentRoad};
 ghost use Rattle.tp4_conn.specs.declared.end_record.EndRecord.{EndRecord};

@@ -26,7 +26,7 @@ use Rattle.tp4_conn.specs.Opened.{is_expedited}
 use Rattle.law_tp4_credit.specs.Giving.{Gives, GivesCredit}
 use Rattle.law_recovery_ends.specs.Knowing.{StageKnows}
 use Rattle.law_tp4_pair.specs.Telling.{Tells}
-use Rattle.law_tp4_pair.specs.steps.Pairs.{IsToldIn}
+use Rattle.law_tp4_pair.specs.Pairs.{IsToldIn}
 use Rattle.law_recovery_ends.specs.Due.{HasTried}
 use Rattle.tp4_entity.specs.Entity.{Entity, end_at}
 use Rattle.tp4_entity.specs.Unit.{EndsWith, Separates}

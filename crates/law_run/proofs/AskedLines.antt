@@ -19,7 +19,7 @@ use Rattle.tp4_number.specs.Number.{wire}
 use Rattle.tp4_world.specs.Asked.{AreAsked, IsAsked, asked_in}
 use Rattle.tp4_world.proofs.Lined.{tells_asked}
 use Rattle.law_run.specs.World.{NetDoes, SetsUp, StartsUp, World, WorldRun, WorldRuns, is_start, link_of_net, titles_of}
-use Rattle.law_run.specs.steps.WorldLaws.{started}
+use Rattle.law_run.proofs.WorldLaws.{started}
 use Rattle.law_run.proofs.Lawful.{runs_on}
 
 note_asks : (note : Note) (more : List Event) → asked_in more ≡ [] → asked_in (events.Net note ∷ more) ≡ []

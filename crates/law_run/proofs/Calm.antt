@@ -6,7 +6,7 @@ use Rattle.std.specs.List.{AllByRecursion}
 use Rattle.std.proofs.lemmas.List.{append-nil}
 use Rattle.std.proofs.lemmas.Option.{slice_get_within}
 use Rattle.osi_base.specs.declared.unit.Unit.{Unit as CarriedUnit}
-use Rattle.lan_bag.specs.Bag.{BagStep, link_of, new_bag}
+use Rattle.lan_step.specs.Bag.{BagStep, link_of, new_bag}
 use Rattle.esis_tables.specs.Rows.{Rows}
 use Rattle.clnp_system.specs.Node.{Node}
 use Rattle.clnp_system.specs.Tables.{rows_tables}
@@ -54,7 +54,7 @@ use Rattle.script_bench.specs.steps.Moves.{line_moves}
 use Rattle.law_setup.proofs.Started.{still_started}
 use Rattle.law_setup.proofs.Made.{net_law}
 use Rattle.law_setup.proofs.Peopled.{entities_new}
-use Rattle.law_run.specs.steps.WorldLaws.{ran_line}
+use Rattle.law_run.proofs.WorldLaws.{ran_line}
 use Rattle.law_run.proofs.CalmNet.{MakesCalm}
 use Rattle.law_run.proofs.CalmRun.{runs_calm}
 use Rattle.script_world.proofs.Headline.{distinct, untouched}

@@ -1,7 +1,7 @@
 -- A calm script is set up, starts, and runs: what its set-up makes is a calm network, and of the lines after the start no raw unit asks for a path.
 use Rattle.std.proofs.Common.{◌≡◌, ◌⊎◌, ℕ, ◌≤◌, Bool, true, false, List, [], ◌∷◌, ◌++◌, length, inl, inr, refl, sym, ◌∙◌, ap, subst, arith}
 use Rattle.std.specs.List.{AllByRecursion}
-use Rattle.lan_bag.specs.declared.setup.Lan.{Lan}
+use Rattle.lan_step.specs.declared.row.Lan.{Lan}
 use Rattle.script_journal.specs.declared.event.Event.{Event}
 use Rattle.script_lines.specs.declared.line.Line.{Line}
 use Rattle.script_lines.specs.declared.line.Line.TheVariants as lines
@@ -17,7 +17,7 @@ use Rattle.script_setup.specs.SetUp.{SetUp, nothing_said, set_up}
 use Rattle.script_setup.proofs.Wellness.{nothing_well, well_after}
 use Rattle.script_lines.specs.declared.words.Dialect.TheVariants as dialects
 use Rattle.law_run.specs.World.{SetsUp, Started, WorldRun, WorldRuns, is_start}
-use Rattle.law_run.specs.steps.WorldLaws.{started}
+use Rattle.law_run.proofs.WorldLaws.{started}
 use Rattle.law_run.specs.World.{World}
 use Rattle.script_world.specs.declared.play.World.TheVariants.{SettingUp}
 use Rattle.law_setup.specs.Agreeing.{AreOne}

@@ -19,7 +19,7 @@ use Rattle.script_world.proofs.Headline.{script_unstrayed, still_honest}
 use Rattle.script_world.specs.declared.play.World.TheVariants.{SettingUp}
 use Rattle.law_setup.proofs.Made.{begins_first, net_law, net_laws}
 use Rattle.law_setup.proofs.Peopled.{entities_new}
-use Rattle.law_run.specs.steps.WorldLaws.{ran_line, started}
+use Rattle.law_run.proofs.WorldLaws.{ran_line, started}
 use Rattle.tp4_conn.specs.declared.timers.Timers.{Timers}
 
 -- ---- a running network

@@ -10,3 +10,4 @@ pub mod Lawful
 mod Legible
 pub mod ScriptRuns
 pub mod Served
+pub mod WorldLaws

@@ -6,4 +6,3 @@ pub mod Recovery
 pub mod Serving
 pub mod Transcript
 pub mod World
-pub mod steps

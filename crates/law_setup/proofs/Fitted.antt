@@ -8,7 +8,7 @@ use Rattle.std.proofs.lemmas.List.{length-map}
 use Rattle.nsap.specs.Address.{is_same_system, system_part}
 use Rattle.nsap.specs.declared.port.Port.{Port}
 use Rattle.nsap.proofs.AddressLemmas.{system_part-selector_of, is_same_system-Decides}
-use Rattle.lan_bag.specs.Rows.{same_snpa}
+use Rattle.lan_step.specs.Rows.{same_snpa}
 use Rattle.clnp_route.specs.declared.table.RouteRow.{RouteRow}
 use Rattle.clnp_route.specs.Routes.{has_prefix}
 use Rattle.script_lines.specs.Grammar.{many_from}

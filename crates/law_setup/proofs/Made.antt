@@ -10,10 +10,10 @@ use Rattle.osi_base.specs.declared.unit.Up.TheVariants.{Unit as Came, Note as No
 use Rattle.osi_base.specs.Link.{IsNote}
 use Rattle.osi_base.specs.Calls.{Call, Keeps}
 use Rattle.law_carrier_answers.specs.Answers.{OneStep}
-use Rattle.lan_bag.specs.Bag.{BagStep, link_of, new_bag}
-use Rattle.lan_bag.specs.declared.setup.Lan.{Lan}
-use Rattle.lan_bag.specs.declared.setup.PortRow.{PortRow}
-use Rattle.lan_bag.specs.steps.Keeping.{bag_given, bag_keeps}
+use Rattle.lan_step.specs.Bag.{BagStep, link_of, new_bag}
+use Rattle.lan_step.specs.declared.row.Lan.{Lan}
+use Rattle.lan_step.specs.declared.row.PortRow.{PortRow}
+use Rattle.lan_step.proofs.Keeping.{bag_given, bag_keeps}
 use Rattle.clnp_system.specs.Node.{Node}
 use Rattle.clnp_system.specs.Setting.{Setting}
 use Rattle.clnp_system.specs.Tables.{rows_tables}

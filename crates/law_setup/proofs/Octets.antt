@@ -5,8 +5,8 @@ use Rattle.std.specs.List.{AllByRecursion}
 use Rattle.std.proofs.lemmas.List.{map-append}
 use Rattle.nsap.specs.declared.port.Hop.{Hop}
 use Rattle.nsap.specs.declared.port.Port.{Port}
-use Rattle.lan_bag.specs.Bag.{link_of, new_bag}
-use Rattle.lan_bag.specs.declared.setup.PortRow.{PortRow}
+use Rattle.lan_step.specs.Bag.{link_of, new_bag}
+use Rattle.lan_step.specs.declared.row.PortRow.{PortRow}
 use Rattle.clnp_route.specs.declared.table.RouteRow.{RouteRow}
 use Rattle.clnp_system.specs.declared.setup.Path.{Path}
 use Rattle.clnp_system.specs.Node.{Node}

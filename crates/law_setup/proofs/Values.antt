@@ -10,7 +10,7 @@ use Rattle.nsap.specs.Address.{selector_of}
 use Rattle.nsap.specs.Text.{address_of_text, snpa_of_text}
 use Rattle.nsap.specs.declared.text.NsapFault.{NsapFault}
 use Rattle.clnp_system.specs.Setting.{is_group}
-use Rattle.lan_bag.specs.Rows.{IsLan}
+use Rattle.lan_step.specs.Rows.{IsLan}
 use Rattle.script_lines.specs.declared.cause.LineCause.{LineCause}
 use Rattle.script_lines.specs.declared.cause.LineCause.TheVariants as causes
 use Rattle.script_lines.specs.declared.cause.LineFault.{LineFault}

@@ -1,6 +1,6 @@
 -- What the names that the lines of a set-up declare have in common with what these lines said.
 use Rattle.std.specs.Prelude.{◌≡◌, ℕ, Bool, List, length, map, slice_get}
-use Rattle.lan_bag.specs.declared.setup.Lan.{Lan}
+use Rattle.lan_step.specs.declared.row.Lan.{Lan}
 use Rattle.script_lines.specs.declared.settings.Key.TheVariants as keys
 use Rattle.script_lines.specs.declared.system.LanRow.{LanRow}
 use Rattle.script_lines.specs.Known.{Declared, KnownSystem, is_among, ports_of, selectors_of}

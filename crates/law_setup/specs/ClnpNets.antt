@@ -3,7 +3,7 @@ use Rattle.std.specs.Prelude.{ℕ, List}
 use Rattle.esis_tables.specs.Rows.{Rows}
 use Rattle.osi_base.specs.Link.{Link}
 use Rattle.osi_base.specs.Calls.{Call}
-use Rattle.lan_bag.specs.Bag.{Bag, BagStep, link_of, new_bag}
+use Rattle.lan_step.specs.Bag.{Bag, BagStep, link_of, new_bag}
 use Rattle.clnp_system.specs.Tables.{rows_tables}
 use Rattle.law_clnp_step.specs.Network.{Network, net_link}
 use Rattle.law_clnp_step.specs.Step.{Begins, NetStep}

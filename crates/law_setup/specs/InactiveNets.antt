@@ -3,7 +3,7 @@
 use Rattle.std.specs.Prelude.{◌≡◌, ℕ, List}
 use Rattle.osi_base.specs.Link.{Link}
 use Rattle.osi_base.specs.Calls.{Call}
-use Rattle.lan_bag.specs.Bag.{Bag, BagStep, link_of, new_bag}
+use Rattle.lan_step.specs.Bag.{Bag, BagStep, link_of, new_bag}
 use Rattle.inactive_step.specs.Network.{Inactive, inactive_link, new_inactive}
 use Rattle.inactive_step.specs.Step.{InactiveStep}
 use Rattle.script_setup.specs.Inactive.{inactive_rows}

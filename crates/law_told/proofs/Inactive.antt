@@ -13,8 +13,8 @@ use Rattle.osi_base.specs.declared.unit.Up.{Up}
 use Rattle.osi_base.specs.declared.unit.Up.TheVariants.{Unit as Came, Note as Noted}
 use Rattle.osi_base.specs.Calls.{Call, Choose, Inject, NextUp, Offer, Tick, after_first}
 use Rattle.law_carrier_answers.specs.Answers.{CanBeAsked, asked_of}
-use Rattle.lan_bag.specs.Bag.{Bag, BagStep, link_of, new_bag, picked_in}
-use Rattle.lan_bag.specs.Frames.{is_taken as is_answer_taken}
+use Rattle.lan_step.specs.Bag.{Bag, BagStep, link_of, new_bag, picked_in}
+use Rattle.lan_step.specs.Frames.{is_taken as is_answer_taken}
 use Rattle.inactive_step.specs.declared.row.InactiveRow.{InactiveRow}
 use Rattle.inactive_step.specs.declared.row.Way.{Way}
 use Rattle.inactive_step.specs.Frames.{frame_on, read_up, read_ups, unit_between, unit_in}

@@ -15,8 +15,8 @@ use Rattle.osi_base.specs.declared.unit.Up.{Up}
 use Rattle.osi_base.specs.declared.unit.Up.TheVariants.{Unit as Came, Note as Noted}
 use Rattle.osi_base.specs.declared.unit.Wish.{Wish}
 use Rattle.osi_base.specs.Calls.{Call, Choose, Inject, NextUp, Offer, Tick, after_first}
-use Rattle.lan_bag.specs.Bag.{Bag, BagStep, after_offer, link_of, picked_in}
-use Rattle.lan_bag.specs.Frames.{is_taken as is_answer_taken}
+use Rattle.lan_step.specs.Bag.{Bag, BagStep, after_offer, link_of, picked_in}
+use Rattle.lan_step.specs.Frames.{is_taken as is_answer_taken}
 use Rattle.law_carrier_answers.specs.Answers.{CanBeAsked, asked_of}
 use Rattle.esis_tables.specs.Rows.{Rows}
 use Rattle.clnp_system.specs.Node.{Frame, Node, Reaction, at_tick}

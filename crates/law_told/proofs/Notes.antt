@@ -20,12 +20,12 @@ use Rattle.osi_base.specs.declared.unit.Up.TheVariants.{Unit as Came}
 use Rattle.osi_base.specs.Calls.{Call, Chain, Choose, Inject, NextUp, Offer, Tick, after_first}
 use Rattle.osi_base.specs.Gathering.{Gathers, takings}
 use Rattle.lan_frame.specs.Frame.{Framed, frame_in}
-use Rattle.lan_bag.specs.Bag.{Bag, BagStep, after_choose, after_inject, after_offer, after_pick, frame_note, link_of, picked_in}
-use Rattle.lan_bag.specs.Frames.{Frame as LanFrame, frame_of, is_given, kept_at, marked, marked_at, marked_frame, picked_late}
-use Rattle.lan_bag.specs.Offers.{offered}
-use Rattle.lan_bag.specs.Reading.{up_in, ups_of}
-use Rattle.lan_bag.specs.Rows.{is_on, room_on, same_port, same_snpa, sender_of}
-use Rattle.lan_bag.specs.declared.setup.PortRow.{PortRow}
+use Rattle.lan_step.specs.Bag.{Bag, BagStep, after_choose, after_inject, after_offer, after_pick, frame_note, link_of, picked_in}
+use Rattle.lan_step.specs.Frames.{Frame as LanFrame, frame_of, is_given, kept_at, marked, marked_at, marked_frame, picked_late}
+use Rattle.lan_step.specs.Offers.{offered}
+use Rattle.lan_step.specs.Reading.{up_in, ups_of}
+use Rattle.lan_step.specs.Rows.{is_on, room_on, same_port, same_snpa, sender_of}
+use Rattle.lan_step.specs.declared.row.PortRow.{PortRow}
 use Rattle.law_carrier_answers.specs.Answers.{AreOctets}
 use Rattle.script_lines.specs.Tags.{Tags}
 use Rattle.law_clnp_answers.specs.Standing.{IsSnpa}

@@ -7,7 +7,7 @@ use Rattle.law_clnp_answers.proofs.Always.{begins_serving, serves}
 use Rattle.law_clnp_answers.proofs.answered.Carrying.{nsap_of}
 use Rattle.clnp_system.specs.Node.{Node}
 use Rattle.esis_tables.specs.Rows.{Rows}
-use Rattle.lan_bag.specs.Bag.{BagStep, link_of, new_bag}
+use Rattle.lan_step.specs.Bag.{BagStep, link_of, new_bag}
 use Rattle.clnp_system.specs.Tables.{rows_tables}
 use Rattle.law_clnp_step.specs.Step.{Begins}
 use Rattle.script_lines.specs.Tags.{Tags}

@@ -1,6 +1,6 @@
 -- What the command `inactive` runs, and what is claimed of its journal (X.233, Inactive Network Layer Protocol subset; X.214, queue model).
 use Rattle.std.specs.Prelude.{List}
-use Rattle.lan_bag.specs.Bag.{Bag}
+use Rattle.lan_step.specs.Bag.{Bag}
 use Rattle.inactive_step.specs.Network.{Inactive}
 use Rattle.script_journal.specs.Lawful.{Lawful}
 use Rattle.script_journal.specs.declared.event.Event.{Event}

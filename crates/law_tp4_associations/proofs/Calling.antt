@@ -17,7 +17,7 @@ use Rattle.tp4_conn.specs.End.{End, IsProposal, IsSized, IsTimed, Moved, agreed_
 use Rattle.tp4_conn.specs.Table.{Called, at, on_call, stepped}
 use Rattle.tp4_conn.specs.UserWait.{accepted, refusing, user_wait_accept, user_wait_refuse}
 use Rattle.law_tp4_pair.specs.Pair.{Accepts, Asks_called, Pair, next}
-use Rattle.law_tp4_pair.specs.steps.Standing.{HasLeft, Stands}
+use Rattle.law_tp4_pair.specs.Standing.{HasLeft, Stands}
 use Rattle.tp4_conn.specs.declared.proposed.Proposed.{Proposed}
 use Rattle.tp4_conn.proofs.Agreed.{agreed_within}
 use Rattle.tp4_conn.proofs.Sizes.{proposal_by}

@@ -27,7 +27,7 @@ use Rattle.tp4_conn.specs.WaitBeforeClose.{wait_before_close_tick}
 use Rattle.tp4_entity.specs.References.{was_frozen}
 use Rattle.tp4_entity.specs.Step.{is_due, kept_end}
 use Rattle.law_tp4_pair.specs.Pair.{Clock, IsIdle, Pair, back_units, forth_units, next, tick_of}
-use Rattle.law_tp4_pair.specs.steps.Standing.{Both, Confirming, First, HasLeft, Left, Stands}
+use Rattle.law_tp4_pair.specs.Standing.{Both, Confirming, First, HasLeft, Left, Stands}
 use Rattle.law_tp4_pair.proofs.Pairs.{stands_on}
 use Rattle.tp4_world.specs.declared.place.EndAt.{EndAt}
 use Rattle.law_tp4_associations.specs.Association.{Association, party as party_of}

@@ -11,7 +11,7 @@ use Rattle.tp4_conn.specs.declared.states.StateData.TheVariants.{AkWait, Opened,
 use Rattle.tp4_conn.specs.End.{End, agreed_sum, release, send}
 use Rattle.tp4_conn.specs.Matching.{fits, sum_agreed}
 use Rattle.tp4_entity.specs.Association.{answer, refusal}
-use Rattle.law_tp4_pair.specs.steps.Waiting.{AreData, IsDataFor}
+use Rattle.law_tp4_pair.specs.Waiting.{AreData, IsDataFor}
 use Rattle.law_tp4_associations.specs.Phase.{AllCome, AreParting, Comes, Has, HearsData, IsConfirm, IsDone, IsFrozen, IsReleaseOf, MayCome, SendsFor, WillFreeze, Writes}
 
 -- ---- lists

@@ -29,7 +29,7 @@ use Rattle.tp4_entity.specs.Association.{calls, is_called, met, refusal, request
 use Rattle.tp4_entity.specs.Entity.{Acted, Entity, end_at, moved}
 use Rattle.tp4_entity.specs.References.{least_free}
 use Rattle.law_tp4_pair.specs.Pair.{Pair}
-use Rattle.law_tp4_pair.specs.steps.Standing.{HasLeft}
+use Rattle.law_tp4_pair.specs.Standing.{HasLeft}
 use Rattle.law_tp4_pair.proofs.Confirming.{indicates}
 use Rattle.law_tp4_pair.proofs.Opening.{confirm_sum}
 use Rattle.law_tp4_pair.proofs.Meeting.{back_met, forth_met}

@@ -12,8 +12,8 @@ use Rattle.tp4_conn.specs.declared.states.StateData.TheVariants.{Opened, Closing
 use Rattle.tp4_conn.specs.End.{Moved, agreed_format, agreed_sum, release}
 use Rattle.tp4_conn.specs.Matching.{sum_agreed}
 use Rattle.law_tp4_pair.specs.Pair.{Account}
-use Rattle.law_tp4_pair.specs.steps.Standing.{AreBoth, HasLeft, party}
-use Rattle.law_tp4_pair.specs.steps.Waiting.{AreData}
+use Rattle.law_tp4_pair.specs.Standing.{AreBoth, HasLeft, party}
+use Rattle.law_tp4_pair.specs.Waiting.{AreData}
 use Rattle.law_tp4_pair.proofs.Wires.{data_then}
 use Rattle.law_tp4_associations.specs.Phase.{AllCome, AreParting, Has, HearsData, IsReleaseOf, Knows, SendsFor, WillFreeze, Writes}
 use Rattle.law_tp4_associations.proofs.Freezing.{come_then, data_come, has_right, release_comes}

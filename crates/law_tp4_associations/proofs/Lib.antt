@@ -1,3 +1,4 @@
+pub mod AllLaws
 pub mod Called
 pub mod Calling
 pub mod Clocked

@@ -20,8 +20,8 @@ use Rattle.tp4_conn.specs.Calls.{call_refusal}
 use Rattle.tp4_conn.specs.Matching.{sum_agreed}
 use Rattle.tp4_conn.specs.Table.{Called, Took, at, on_call, on_tpdu, stepped, takes, untaken}
 use Rattle.law_tp4_pair.specs.Pair.{Account, Asks_called, Asks_calling, Comes_back, Comes_forth, IsIdle, Pair, asks_called, asks_calling, back_units, comes_back, comes_forth, forth_units}
-use Rattle.law_tp4_pair.specs.steps.Standing.{AreBoth, Both, Confirming, First, HasLeft, Left, Stands, party}
-use Rattle.law_tp4_pair.specs.steps.Waiting.{AreData}
+use Rattle.law_tp4_pair.specs.Standing.{AreBoth, Both, Confirming, First, HasLeft, Left, Stands, party}
+use Rattle.law_tp4_pair.specs.Waiting.{AreData}
 use Rattle.law_tp4_pair.proofs.Confirming.{confirms}
 use Rattle.law_tp4_pair.proofs.Handing.{has_sum}
 use Rattle.law_tp4_pair.proofs.Pairs.{stands_on}

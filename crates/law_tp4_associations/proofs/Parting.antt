@@ -20,8 +20,8 @@ use Rattle.tp4_conn.specs.Matching.{fits, is_refusal, is_source, sum_agreed, wan
 use Rattle.tp4_conn.specs.Opened.{hearing, opened_tpdu}
 use Rattle.tp4_conn.specs.Table.{Took, at, stepped, untaken}
 use Rattle.tp4_entity.specs.Association.{answer, refusal, stateless}
-use Rattle.law_tp4_pair.specs.steps.Standing.{HasLeft}
-use Rattle.law_tp4_pair.specs.steps.Waiting.{IsDataFor}
+use Rattle.law_tp4_pair.specs.Standing.{HasLeft}
+use Rattle.law_tp4_pair.specs.Waiting.{IsDataFor}
 use Rattle.law_tp4_associations.specs.Phase.{AllCome, AreParting, ArePartingFrom, AreWriting, Comes, Has, HearsData, IsAsking, IsConfirm, IsDone, IsFrozen, IsReleaseOf, MayCome, WillFreeze, Writes}
 use Rattle.law_tp4_associations.proofs.Freezing.{answered_done, closing_freezes, closing_waits, closing_waits_back, data_come, done_comes, frozen_answers, has_right, come_then, open_closes, open_closes_back, open_freezes, open_waits, open_waits_back, other_release, rebuilt, refused_comes, release_comes, waiting_freezes, waiting_refused, waiting_waits, waiting_waits_back}
 use Rattle.law_tp4_associations.proofs.Writing.{Closes, Open_on, Stays, hears_data}

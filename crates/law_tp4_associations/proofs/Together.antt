@@ -1,7 +1,7 @@
 -- All laws of associations together: each step of a network in which nothing is lost leaves its associations standing.
 use Rattle.std.proofs.Common.{ℕ, List}
 use Rattle.tp4_conn.specs.declared.timers.Timers.{Timers}
-use Rattle.law_tp4_associations.specs.steps.Together.{Laws}
+use Rattle.law_tp4_associations.proofs.AllLaws.{Laws}
 use Rattle.law_tp4_associations.specs.Ticking.{IsTicking}
 use Rattle.law_tp4_associations.proofs.Called.{calls}
 use Rattle.law_tp4_associations.proofs.Connecting.{connects}

@@ -19,8 +19,8 @@ use Rattle.tp4_entity.specs.Entity.{Entity}
 use Rattle.tp4_world.specs.World.{entity_at}
 use Rattle.tp4_world.specs.declared.place.Placed.{Placed}
 use Rattle.law_tp4_pair.specs.Pair.{Accepts, Pair}
-use Rattle.law_tp4_pair.specs.steps.Standing.{AreBoth, Both, Confirming, First, HasLeft, Left, Party, Stands, party}
-use Rattle.law_tp4_pair.specs.steps.Waiting.{AreData, IsDataFor}
+use Rattle.law_tp4_pair.specs.Standing.{AreBoth, Both, Confirming, First, HasLeft, Left, Party, Stands, party}
+use Rattle.law_tp4_pair.specs.Waiting.{AreData, IsDataFor}
 use Rattle.law_tp4_pair.proofs.Meeting.{back_met, forth_met}
 use Rattle.law_tp4_associations.specs.Association.{Association, Posted, system_of, waiting}
 use Rattle.law_tp4_associations.specs.Laws.{Addressed, Answerable, Formatted, MayAccept}

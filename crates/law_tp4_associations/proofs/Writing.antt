@@ -26,7 +26,7 @@ use Rattle.tp4_conn.specs.declared.states.StateData.TheVariants.{Closing, Opened
 use Rattle.tp4_conn.specs.End.{Moved, closing, release}
 use Rattle.tp4_conn.specs.Opened.{acking, dt_as, granting, is_expedited, opened_as, opened_goes, opened_tick, opened_tpdu, receiving, sending}
 use Rattle.tp4_conn.specs.Table.{on_call}
-use Rattle.law_tp4_pair.specs.steps.Waiting.{AreData, IsDataFor}
+use Rattle.law_tp4_pair.specs.Waiting.{AreData, IsDataFor}
 use Rattle.law_tp4_pair.proofs.Wires.{data_then}
 
 pub either : {A : Type 0} (P : A → Type 0) (c : Bool) (x y : A) → P x → P y → P (if c then x else y)

@@ -19,7 +19,7 @@ use Rattle.tp4_entity.specs.Entity.{Entity, at, end_at}
 use Rattle.tp4_entity.specs.References.{least_free}
 use Rattle.tp4_entity.specs.Step.{call_of, calling, connecting, first_due, kept_end, ticking, user_refusal}
 use Rattle.law_tp4_pair.specs.Pair.{Accepts}
-use Rattle.law_tp4_pair.specs.steps.Standing.{HasLeft}
+use Rattle.law_tp4_pair.specs.Standing.{HasLeft}
 use Rattle.tp4_world.specs.World.{entity_at, with_entity}
 use Rattle.tp4_world.specs.declared.place.Placed.{Placed}
 use Rattle.law_tp4_associations.specs.Association.{Association, Posted, cleared, post, system_of, with_party}

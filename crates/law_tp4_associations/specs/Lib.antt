@@ -4,4 +4,3 @@ pub mod Laws
 pub mod Phase
 pub mod Standing
 pub mod Ticking
-pub mod steps

@@ -20,7 +20,7 @@ use Rattle.tp4_conn.specs.End.{End, agreed_format, agreed_sum, frozen_for}
 use Rattle.tp4_conn.specs.Matching.{sum_agreed}
 use Rattle.tp4_entity.specs.References.{was_frozen}
 use Rattle.law_tp4_pair.specs.Pair.{Pair}
-use Rattle.law_tp4_pair.specs.steps.Standing.{HasLeft, Stands}
+use Rattle.law_tp4_pair.specs.Standing.{HasLeft, Stands}
 use Rattle.law_tp4_associations.specs.Association.{Association}
 
 -- ---- ends

@@ -15,11 +15,11 @@ use Rattle.tp4_number.specs.declared.piece.Piece.{Piece}
 use Rattle.law_tp4_history.specs.Complete.{AllFull}
 use Rattle.law_tp4_moves.specs.Lines.{shown_in}
 use Rattle.law_tp4_pair.specs.Pair.{Account}
-use Rattle.law_tp4_pair.specs.steps.Carrying.{Carries, pieces_in, units_in}
+use Rattle.law_tp4_pair.specs.Carrying.{Carries, pieces_in, units_in}
 use Rattle.law_tp4_pair.proofs.Carried.{no_pieces, no_units, pieces_count, pieces_then, units_count, units_then}
-use Rattle.law_tp4_pair.specs.steps.Waiting.{AreData, View, dts_in, eds_in, aks_in, eas_in}
-use Rattle.law_tp4_pair.specs.steps.Flowing.{IsCalm}
-use Rattle.law_tp4_pair.specs.steps.Standing.{IsAgreed, HasLeft, AreBoth, Party, party}
+use Rattle.law_tp4_pair.specs.Waiting.{AreData, View, dts_in, eds_in, aks_in, eas_in}
+use Rattle.law_tp4_pair.specs.Flowing.{IsCalm}
+use Rattle.law_tp4_pair.specs.Standing.{IsAgreed, HasLeft, AreBoth, Party, party}
 use Rattle.law_tp4_pair.proofs.Hearing.{CalmAfter}
 use Rattle.law_tp4_pair.proofs.Wires.{dts_then, eds_then, aks_then, eas_then, data_then}
 

@@ -12,11 +12,11 @@ use Rattle.tp4_sending.specs.declared.tries.Tries.{Tries}
 use Rattle.tp4_number.specs.declared.piece.Piece.{Piece}
 use Rattle.script_journal.specs.Lawful.{Marked}
 use Rattle.law_tp4_moves.specs.Lines.{shown_in}
-use Rattle.law_tp4_pair.specs.steps.Carrying.{Carries}
+use Rattle.law_tp4_pair.specs.Carrying.{Carries}
 use Rattle.law_tp4_pair.proofs.Carried.{done_carry, ed_carry, empty_by}
-use Rattle.law_tp4_pair.specs.steps.Waiting.{AreData, View, dts_in, eds_in, aks_in, eas_in}
+use Rattle.law_tp4_pair.specs.Waiting.{AreData, View, dts_in, eds_in, aks_in, eas_in}
 use Rattle.law_tp4_pair.proofs.Hearing.{CalmAfter, adds_none, new_after}
-use Rattle.law_tp4_pair.specs.steps.Flowing.{IsAnswering, IsLevel, IsCalm}
+use Rattle.law_tp4_pair.specs.Flowing.{IsAnswering, IsLevel, IsCalm}
 
 -- the ED that waits first is the one expected, and waits alone
 pub record Expects (block n w : ℕ) (h : Half) (rest eas : List ℕ) : Type 0 where

@@ -5,7 +5,7 @@ use Rattle.tp4_sending.specs.SendingHalf.{FlowSender, submitted, urged}
 use Rattle.tp4_sending.specs.declared.tries.Tries.{Tries}
 use Rattle.script_journal.specs.Lawful.{Normal, Expedited}
 use Rattle.law_tp4_pair.proofs.Carried.{submit_carry, urge_carry}
-use Rattle.law_tp4_pair.specs.steps.Flowing.{HasUnit, IsCalm}
+use Rattle.law_tp4_pair.specs.Flowing.{HasUnit, IsCalm}
 use Rattle.law_tp4_pair.proofs.Going.{flows_as, level_there}
 use Rattle.law_tp4_pair.proofs.Hearing.{CalmAfter, new_after}
 

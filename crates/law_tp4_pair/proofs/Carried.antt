@@ -26,9 +26,9 @@ use Rattle.law_tp4_moves.proofs.FlowUnits.{cut_behind, freed_front}
 use Rattle.law_tp4_history.specs.Complete.{AllFull, Complete}
 use Rattle.law_tp4_history.proofs.Complete.{complete_more, cut_more, full_more, one_piece, shown_on}
 use Rattle.law_tp4_history.proofs.Marks.{normals-append, expediteds-append}
-use Rattle.law_tp4_pair.specs.steps.Carrying.{AreLeft, ArePieces, Carries, piece_in, pieces_in, unit_in, units_in}
-use Rattle.law_tp4_pair.specs.steps.Flowing.{HasUnit, IsOrdered}
-use Rattle.law_tp4_pair.specs.steps.Waiting.{dt_in, dts_in, ed_in, eds_in, wires}
+use Rattle.law_tp4_pair.specs.Carrying.{AreLeft, ArePieces, Carries, piece_in, pieces_in, unit_in, units_in}
+use Rattle.law_tp4_pair.specs.Flowing.{HasUnit, IsOrdered}
+use Rattle.law_tp4_pair.specs.Waiting.{dt_in, dts_in, ed_in, eds_in, wires}
 use Rattle.law_tp4_pair.proofs.Sends.{sends_new, urgent_sends, where_sends}
 
 -- ---- lists

@@ -16,11 +16,11 @@ use Rattle.script_journal.specs.Lawful.{Marked}
 use Rattle.tp4_flow.specs.declared.step.EndEvent.{EndEvent}
 use Rattle.law_tp4_moves.specs.Lines.{shown_in}
 use Rattle.law_tp4_pair.specs.Pair.{Account}
-use Rattle.law_tp4_pair.specs.steps.Carrying.{Carries, pieces_in, units_in}
+use Rattle.law_tp4_pair.specs.Carrying.{Carries, pieces_in, units_in}
 use Rattle.law_tp4_pair.proofs.Carried.{pieces_then, units_then}
-use Rattle.law_tp4_pair.specs.steps.Waiting.{AreData, View, dts_in, eds_in, aks_in, eas_in}
-use Rattle.law_tp4_pair.specs.steps.Flowing.{IsCalm}
-use Rattle.law_tp4_pair.specs.steps.Standing.{IsAgreed, HasLeft, AreBoth, Party, party}
+use Rattle.law_tp4_pair.specs.Waiting.{AreData, View, dts_in, eds_in, aks_in, eas_in}
+use Rattle.law_tp4_pair.specs.Flowing.{IsCalm}
+use Rattle.law_tp4_pair.specs.Standing.{IsAgreed, HasLeft, AreBoth, Party, party}
 use Rattle.law_tp4_pair.proofs.Acting.{agreed_on, carried_to, leaves_there, sends_here}
 use Rattle.law_tp4_pair.proofs.Going.{calm_at}
 use Rattle.law_tp4_pair.proofs.Granting.{ak_repeated}

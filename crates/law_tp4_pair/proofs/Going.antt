@@ -7,8 +7,8 @@ use Rattle.tp4_number.specs.Formats.{block_of}
 use Rattle.tp4_sending.specs.SendingHalf.{FlowSender, UrgentSender, Sendings, at, block_in}
 use Rattle.tp4_sending.specs.Settled.{IsSettled}
 use Rattle.tp4_sending.specs.declared.tries.Tries.{Tries}
-use Rattle.law_tp4_pair.specs.steps.Waiting.{View, dts_in, eds_in, wires, views}
-use Rattle.law_tp4_pair.specs.steps.Flowing.{IsOrdered, known, said, LeadsTo, IsQuiet, IsAnswering, Flows, IsLevel, IsCalm}
+use Rattle.law_tp4_pair.specs.Waiting.{View, dts_in, eds_in, wires, views}
+use Rattle.law_tp4_pair.specs.Flowing.{IsOrdered, known, said, LeadsTo, IsQuiet, IsAnswering, Flows, IsLevel, IsCalm}
 use Rattle.law_tp4_pair.proofs.Sends.{Asks, Still, New, SendsNew}
 use Rattle.law_tp4_pair.proofs.Wires.{wires_then, leads_low}
 

@@ -8,8 +8,8 @@ use Rattle.tp4_number.specs.Receiver.{Inbox, granted}
 use Rattle.tp4_number.proofs.Past.{if_kept}
 use Rattle.tp4_sending.specs.SendingHalf.{FlowSender, block_in}
 use Rattle.tp4_sending.specs.declared.tries.Tries.{Tries}
-use Rattle.law_tp4_pair.specs.steps.Waiting.{View, aks_in, wires, views}
-use Rattle.law_tp4_pair.specs.steps.Flowing.{known, said, IsNoOlder, Further, Later, Wider, LeadsTo, IsAnswering, IsCalm}
+use Rattle.law_tp4_pair.specs.Waiting.{View, aks_in, wires, views}
+use Rattle.law_tp4_pair.specs.Flowing.{known, said, IsNoOlder, Further, Later, Wider, LeadsTo, IsAnswering, IsCalm}
 use Rattle.law_tp4_pair.proofs.Going.{level_there}
 use Rattle.law_tp4_pair.proofs.Taking.{answering_there}
 use Rattle.law_tp4_pair.proofs.Wires.{leads_on, give_on, views_then}

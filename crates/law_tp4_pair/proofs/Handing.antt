@@ -21,10 +21,10 @@ use Rattle.tp4_conn.specs.Table.{at as now_at, takes, untaken, on_tpdu}
 use Rattle.script_journal.specs.Lawful.{Marked}
 use Rattle.law_tp4_moves.specs.Lines.{shown_in}
 use Rattle.law_tp4_pair.specs.Pair.{Account}
-use Rattle.law_tp4_pair.specs.steps.Carrying.{pieces_in, units_in}
+use Rattle.law_tp4_pair.specs.Carrying.{pieces_in, units_in}
 use Rattle.law_tp4_pair.proofs.Carried.{units_count}
-use Rattle.law_tp4_pair.specs.steps.Waiting.{View, dts_in, eds_in, aks_in, eas_in}
-use Rattle.law_tp4_pair.specs.steps.Standing.{AreBoth, Party, party}
+use Rattle.law_tp4_pair.specs.Waiting.{View, dts_in, eds_in, aks_in, eas_in}
+use Rattle.law_tp4_pair.specs.Standing.{AreBoth, Party, party}
 use Rattle.law_tp4_pair.proofs.Acting.{sending_on, receiving_on, Continues}
 use Rattle.law_tp4_pair.proofs.Asking.{ed_taken, ea_taken}
 use Rattle.law_tp4_pair.proofs.Going.{calm_at}

@@ -19,10 +19,10 @@ use Rattle.tp4_number.specs.declared.piece.Piece.{Piece}
 use Rattle.script_journal.specs.Lawful.{Marked, normals}
 use Rattle.law_tp4_history.specs.Complete.{AllFull}
 use Rattle.law_tp4_moves.specs.Lines.{shown_in}
-use Rattle.law_tp4_pair.specs.steps.Carrying.{Carries, pieces_in, units_in}
+use Rattle.law_tp4_pair.specs.Carrying.{Carries, pieces_in, units_in}
 use Rattle.law_tp4_pair.proofs.Carried.{carries_at, empty_by, freed_carry, sends_carry, wires_count}
-use Rattle.law_tp4_pair.specs.steps.Waiting.{AreData, View, dts_in, eds_in, aks_in, eas_in, views}
-use Rattle.law_tp4_pair.specs.steps.Flowing.{IsAnswering, IsQuiet, IsOrdered, known, said, IsNoOlder, Further, Later, Wider, LeadsTo, AllGive, Flows, IsLevel, IsChanging, IsCalm}
+use Rattle.law_tp4_pair.specs.Waiting.{AreData, View, dts_in, eds_in, aks_in, eas_in, views}
+use Rattle.law_tp4_pair.specs.Flowing.{IsAnswering, IsQuiet, IsOrdered, known, said, IsNoOlder, Further, Later, Wider, LeadsTo, AllGive, Flows, IsLevel, IsChanging, IsCalm}
 use Rattle.law_tp4_pair.proofs.Going.{after_sends}
 use Rattle.law_tp4_pair.proofs.Sends.{sends_new}
 use Rattle.law_tp4_pair.proofs.Taking.{some_block, most_low}

@@ -15,7 +15,7 @@ use Rattle.tp4_conn.specs.End.{End, Moved, span}
 use Rattle.tp4_conn.specs.Matching.{wants_sum}
 use Rattle.tp4_conn.specs.Table.{Event, Called, Took, Ticked, at, on_call, on_tick, on_tpdu, stepped}
 use Rattle.tp4_conn.specs.WaitBeforeClose.{wait_before_close_tpdu, wait_before_close_tick}
-use Rattle.law_tp4_pair.specs.steps.Standing.{HasLeft}
+use Rattle.law_tp4_pair.specs.Standing.{HasLeft}
 
 abbrev Leaves : Moved → Type 0
 Leaves m = HasLeft m.stage

@@ -21,8 +21,8 @@ use Rattle.tp4_entity.specs.Association.{met, met_at, met_by, unmatched}
 use Rattle.tp4_entity.specs.Entity.{Entity, end_at, moved}
 use Rattle.law_tp4_pair.specs.Meeting.{IsMet}
 use Rattle.law_tp4_pair.specs.Pair.{Pair, back_units, forth_units}
-use Rattle.law_tp4_pair.specs.steps.Standing.{AreBoth, Both, Confirming, First, HasLeft, Left, Stands, party}
-use Rattle.law_tp4_pair.specs.steps.Waiting.{AreData, IsDataFor}
+use Rattle.law_tp4_pair.specs.Standing.{AreBoth, Both, Confirming, First, HasLeft, Left, Stands, party}
+use Rattle.law_tp4_pair.specs.Waiting.{AreData, IsDataFor}
 use Rattle.law_tp4_pair.proofs.Acting.{turned}
 
 same_octets : (l : List ℕ) → pointwise nat_eq l l ≡ true

@@ -30,9 +30,9 @@ use Rattle.tpdu.specs.declared.service.GoneCause.TheVariants.{Protocol}
 use Rattle.law_tp4_moves.specs.Lines.{shown_in}
 use Rattle.law_tp4_pair.specs.Pair.{Account}
 use Rattle.law_tp4_pair.proofs.Carried.{fresh_carries}
-use Rattle.law_tp4_pair.specs.steps.Waiting.{aks_in}
-use Rattle.law_tp4_pair.specs.steps.Flowing.{IsCalm}
-use Rattle.law_tp4_pair.specs.steps.Standing.{HasLeft, AreBoth, IsFirst, Party, party}
+use Rattle.law_tp4_pair.specs.Waiting.{aks_in}
+use Rattle.law_tp4_pair.specs.Flowing.{IsCalm}
+use Rattle.law_tp4_pair.specs.Standing.{HasLeft, AreBoth, IsFirst, Party, party}
 use Rattle.law_tp4_pair.proofs.Acting.{Continues}
 use Rattle.law_tp4_pair.proofs.Granting.{ak_repeated}
 use Rattle.law_tp4_pair.proofs.Handing.{data_goes, has_sum}

@@ -17,7 +17,7 @@ use Rattle.script_journal.specs.Lawful.{Marked}
 use Rattle.tp4_conn.specs.Calls.{call_refusal}
 use Rattle.law_tp4_moves.specs.Lines.{given, shown_in}
 use Rattle.law_tp4_pair.specs.Pair.{Account, Asks_called, Asks_calling, Clock, Comes_back, Comes_forth, Happening, IsIdle, IsNew, Leads, May, Pair, asks_called, asks_calling, back_units, clocked, comes_back, comes_forth, forth_units, next, tick_of}
-use Rattle.law_tp4_pair.specs.steps.Standing.{HasLeft, AreBoth, IsConfirming, IsFirst, Stands, Left, Confirming, First, Both, party}
+use Rattle.law_tp4_pair.specs.Standing.{HasLeft, AreBoth, IsConfirming, IsFirst, Stands, Left, Confirming, First, Both, party}
 use Rattle.law_tp4_pair.proofs.Acting.{Continues, turned}
 use Rattle.law_tp4_pair.proofs.Clocking.{Ticks, has_tick, has_none, both_tick}
 use Rattle.law_tp4_pair.proofs.Handing.{handed}

@@ -27,12 +27,12 @@ use Rattle.tp4_conn.specs.UserWait.{user_wait_accept}
 use Rattle.script_journal.specs.Lawful.{expediteds, normals}
 use Rattle.law_tp4_history.specs.Complete.{Complete}
 use Rattle.law_tp4_history.proofs.Complete.{one_more}
-use Rattle.law_tp4_pair.specs.steps.Carrying.{AreLeft, Carries}
-use Rattle.law_tp4_pair.specs.steps.Flowing.{IsCalm}
+use Rattle.law_tp4_pair.specs.Carrying.{AreLeft, Carries}
+use Rattle.law_tp4_pair.specs.Flowing.{IsCalm}
 use Rattle.law_tp4_pair.specs.Pair.{Accepts, Account, Asks_called, IsIdle, IsNew, Pair, back_units, forth_units, next}
 use Rattle.law_tp4_pair.specs.Claim.{HoldsDt, HoldsEd}
-use Rattle.law_tp4_pair.specs.steps.Rest.{HasTaken, By_ed, By_dt, By_credit, All, IsAtRest, IsShown, AreAtRest}
-use Rattle.law_tp4_pair.specs.steps.Standing.{HasLeft, AreBoth, Stands, Left, Confirming, First, Both, party}
+use Rattle.law_tp4_pair.specs.Rest.{HasTaken, By_ed, By_dt, By_credit, All, IsAtRest, IsShown, AreAtRest}
+use Rattle.law_tp4_pair.specs.Standing.{HasLeft, AreBoth, Stands, Left, Confirming, First, Both, party}
 use Rattle.law_tp4_pair.proofs.Granting.{at_rest}
 
 some_units : (n : ℕ) → (suc n == 0) ≡ false

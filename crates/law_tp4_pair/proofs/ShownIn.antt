@@ -21,9 +21,9 @@ use Rattle.tp4_conn.specs.End.{End}
 use Rattle.tp4_conn.specs.Living.{IsInTime}
 use Rattle.tp4_conn.specs.Table.{due}
 use Rattle.law_tp4_pair.specs.Claim.{AllShown, HasShown, HoldsDt, HoldsEd, TellsDt, TellsEd}
-use Rattle.law_tp4_pair.specs.steps.Pairs.{AreLater, ArePairs, IsPairOf, IsToldIn}
+use Rattle.law_tp4_pair.specs.Pairs.{AreLater, ArePairs, IsPairOf, IsToldIn}
 use Rattle.law_tp4_pair.specs.Pair.{Account, Asks_called, next}
-use Rattle.law_tp4_pair.specs.steps.Rest.{AreAtRest, IsShown}
+use Rattle.law_tp4_pair.specs.Rest.{AreAtRest, IsShown}
 use Rattle.law_tp4_pair.specs.Telling.{AreTold, HasTold, Tells}
 use Rattle.law_tp4_pair.proofs.Pairs.{stands_after}
 use Rattle.law_tp4_pair.proofs.Resting.{accepts_stands, pair_rests}

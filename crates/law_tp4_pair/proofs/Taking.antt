@@ -15,10 +15,10 @@ use Rattle.tp4_number.proofs.Numbers.{near_is}
 use Rattle.tp4_sending.specs.SendingHalf.{FlowSender, block_in}
 use Rattle.script_journal.specs.Lawful.{Marked}
 use Rattle.law_tp4_moves.specs.Lines.{shown_in}
-use Rattle.law_tp4_pair.specs.steps.Carrying.{Carries}
+use Rattle.law_tp4_pair.specs.Carrying.{Carries}
 use Rattle.law_tp4_pair.proofs.Carried.{dt_carry}
-use Rattle.law_tp4_pair.specs.steps.Waiting.{AreData, View, dts_in, eds_in, aks_in, eas_in, wires, views}
-use Rattle.law_tp4_pair.specs.steps.Flowing.{IsInOrder, known, said, Further, AllGive, IsAnswering, Flows, IsLevel, IsCalm}
+use Rattle.law_tp4_pair.specs.Waiting.{AreData, View, dts_in, eds_in, aks_in, eas_in, wires, views}
+use Rattle.law_tp4_pair.specs.Flowing.{IsInOrder, known, said, Further, AllGive, IsAnswering, Flows, IsLevel, IsCalm}
 use Rattle.law_tp4_pair.proofs.Wires.{leads_on, give_on, views_then}
 
 pub some_block : (format : Format) → 0 < block_of format

@@ -7,7 +7,7 @@ use Rattle.tp4_flow.specs.declared.rules.Life.TheVariants.{Goes, Exhausted}
 use Rattle.tp4_sending.specs.declared.tries.Tries.{Tries}
 use Rattle.tp4_sending.specs.SendingHalf.{FlowSender, Sendings, block_in, life_of, is_urgent_spent, nothing, new_sends, resends_urgent_as, ticked, ticked_as, marked_all, all_dts, then_sends, resends, resends_urgent}
 use Rattle.tp4_sending.specs.Pieces.{is_spent, due_from, resent}
-use Rattle.law_tp4_pair.specs.steps.Flowing.{IsCalm}
+use Rattle.law_tp4_pair.specs.Flowing.{IsCalm}
 use Rattle.law_tp4_pair.proofs.Going.{level_there}
 use Rattle.law_tp4_pair.proofs.Granting.{at_rest}
 use Rattle.law_tp4_pair.proofs.Hearing.{CalmAfter, new_calm}

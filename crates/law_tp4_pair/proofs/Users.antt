@@ -21,9 +21,9 @@ use Rattle.tp4_conn.specs.Calls.{call_refusal, unit_refusal}
 use Rattle.law_tp4_history.specs.Complete.{AllFull}
 use Rattle.law_tp4_moves.specs.Lines.{given}
 use Rattle.law_tp4_pair.specs.Pair.{Account}
-use Rattle.law_tp4_pair.specs.steps.Carrying.{Carries}
+use Rattle.law_tp4_pair.specs.Carrying.{Carries}
 use Rattle.law_tp4_pair.proofs.Carried.{half_carry}
-use Rattle.law_tp4_pair.specs.steps.Standing.{AreBoth, Party, party}
+use Rattle.law_tp4_pair.specs.Standing.{AreBoth, Party, party}
 use Rattle.law_tp4_pair.proofs.Acting.{sending_on, receiving_on, Continues}
 use Rattle.law_tp4_pair.proofs.Calling.{submitted_calm, urged_calm}
 use Rattle.law_tp4_pair.proofs.Going.{calm_at}

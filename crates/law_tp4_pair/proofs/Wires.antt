@@ -3,8 +3,8 @@ use Rattle.std.proofs.Common.{◌≡◌, ℕ, zero, suc, ◌+◌, ◌≤◌, Lis
 use Rattle.tp4_flow.specs.declared.rules.FlowRules.{FlowRules}
 use Rattle.tp4_flow.specs.declared.step.Sent.{Sent}
 use Rattle.tp4_number.specs.Number.{wire}
-use Rattle.law_tp4_pair.specs.steps.Waiting.{AreData, View, dt_in, dts_in, ed_in, eds_in, ak_in, aks_in, ea_in, eas_in, wires, views}
-use Rattle.law_tp4_pair.specs.steps.Flowing.{IsNoOlder, Further, Later, Wider, LeadsTo, AllGive}
+use Rattle.law_tp4_pair.specs.Waiting.{AreData, View, dt_in, dts_in, ed_in, eds_in, ak_in, aks_in, ea_in, eas_in, wires, views}
+use Rattle.law_tp4_pair.specs.Flowing.{IsNoOlder, Further, Later, Wider, LeadsTo, AllGive}
 
 pub dts_then : (a b : List Sent) → dts_in (a ++ b) ≡ dts_in a ++ dts_in b
 dts_then [] b = refl

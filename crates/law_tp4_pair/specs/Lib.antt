@@ -1,7 +1,12 @@
 pub mod CalmScript
+pub mod Carrying
 pub mod Claim
+pub mod Flowing
 pub mod Left
 pub mod Meeting
 pub mod Pair
+pub mod Pairs
+pub mod Rest
+pub mod Standing
 pub mod Telling
-pub mod steps
+pub mod Waiting

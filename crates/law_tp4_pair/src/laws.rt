@@ -28,16 +28,16 @@ ghost use Rattle.tp4_conn.specs.Table.{Event, stepped, takes};
 ghost use Rattle.tp4_entity.specs.Association.{is_called, is_registered, met};
 ghost use Rattle.tp4_entity.specs.Entity.{Entity, moved};
 ghost use Rattle.tp4_entity.specs.References.{least_free};
-ghost use Rattle.law_tp4_pair.specs.steps.Flowing.{IsCalm, IsCalmOn};
+ghost use Rattle.law_tp4_pair.specs.Flowing.{IsCalm, IsCalmOn};
 ghost use Rattle.script_journal.specs.declared.event.Event.{Event as JournalEvent};
 ghost use Rattle.law_tp4_pair.specs.Claim.{AllShown};
 ghost use Rattle.law_tp4_pair.specs.Meeting.{IsMet};
 ghost use Rattle.law_tp4_pair.specs.Pair.{Accepts, AreOpened, Asks_called, Comes_back, Comes_forth, Happening, IsIdle, Leads, May, Pair, next};
-ghost use Rattle.law_tp4_pair.specs.steps.Pairs.{AreLater, ArePairs};
-ghost use Rattle.law_tp4_pair.specs.steps.Rest.{AreAtRest, IsAtRest};
-ghost use Rattle.law_tp4_pair.specs.steps.Standing.{HasLeft, Stands};
+ghost use Rattle.law_tp4_pair.specs.Pairs.{AreLater, ArePairs};
+ghost use Rattle.law_tp4_pair.specs.Rest.{AreAtRest, IsAtRest};
+ghost use Rattle.law_tp4_pair.specs.Standing.{HasLeft, Stands};
 ghost use Rattle.law_tp4_pair.specs.Telling.{AreTold, Tells};
-ghost use Rattle.law_tp4_pair.specs.steps.Waiting.{View, aks_in, eas_in};
+ghost use Rattle.law_tp4_pair.specs.Waiting.{View, aks_in, eas_in};
 
 /// One direction between two Opened ends stays calm: what waits first is handed over; where no AK waits a unit is submitted; where nothing
 /// waits a credit is given or a tick passes.

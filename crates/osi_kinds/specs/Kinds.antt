@@ -3,7 +3,7 @@ use Rattle.std.specs.Prelude.{ℕ, List, codes}
 use Rattle.osi_base.specs.declared.status.Status.{Status}
 use Rattle.line_loop.specs.Laws.{AsksOne, AsksSomething}
 use Rattle.line_loop.specs.Outcome.{IsAccepted, AsksFor}
-use Rattle.lan_bag.specs.Bag.{Bag}
+use Rattle.lan_step.specs.Bag.{Bag}
 use Rattle.inactive_step.specs.Network.{Inactive}
 use Rattle.script_journal.specs.declared.event.Event.{Event}
 use Rattle.script_journal.specs.Lawful.{Lawful}

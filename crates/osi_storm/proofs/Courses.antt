@@ -15,7 +15,7 @@ use Rattle.rand_pcg.specs.Pcg.{pcg32}
 use Rattle.script_bench.specs.Acts.{HasStep}
 use Rattle.law_run.specs.Bench.{Bench, RunsText, first_bench, most_events}
 use Rattle.law_run.specs.World.{world_acts}
-use Rattle.law_run.specs.steps.WorldLaws.{world_keeping, world_laws}
+use Rattle.law_run.proofs.WorldLaws.{world_keeping, world_laws}
 use Rattle.osi_storm.specs.Storm.{AsksSomeSummary, StormFills, StormRuns, SummaryOutcome, as_it_stands, line_after, storm_lines}
 use Rattle.script_bench.specs.Text.{done_line, toomuch_line}
 use Rattle.osi_storm.proofs.Generated.{AreClear, Lines, storm_clear}

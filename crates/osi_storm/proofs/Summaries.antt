@@ -12,7 +12,7 @@ use Rattle.law_run.specs.Bench.{Bench, first_bench}
 use Rattle.osi_storm.specs.Laws.{AsksOneSummary}
 use Rattle.osi_storm.specs.Storm.{AsksSummary, StormFills, StormRuns, SummaryOutcome, storm_lines}
 use Rattle.script_bench.specs.Text.{done_line}
-use Rattle.law_run.specs.steps.WorldLaws.{bench_laws}
+use Rattle.law_run.proofs.WorldLaws.{bench_laws}
 
 -- ---- one course
 

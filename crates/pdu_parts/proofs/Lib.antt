@@ -1,2 +1,3 @@
 pub mod Addresses
 pub mod Parameters
+pub mod Readings

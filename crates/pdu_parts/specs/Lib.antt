@@ -6,4 +6,3 @@ pub mod Laws
 pub mod Lent
 pub mod Number
 pub mod Parameter
-pub mod steps

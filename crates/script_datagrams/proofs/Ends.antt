@@ -3,8 +3,8 @@ use Rattle.std.proofs.Common.{◌≡◌, ◌==◌, ◌&&◌, ℕ, suc, ◌+◌, 
 use Rattle.std.specs.Prelude.{◌||◌, slice_get, IsTrue}
 use Rattle.std.specs.List.{list_any}
 use Rattle.nsap.specs.Address.{is_same_system}
-use Rattle.lan_bag.specs.Bag.{BagStep, link_of, new_bag}
-use Rattle.lan_bag.specs.steps.Keeping.{bag_keeps}
+use Rattle.lan_step.specs.Bag.{BagStep, link_of, new_bag}
+use Rattle.lan_step.proofs.Keeping.{bag_keeps}
 use Rattle.clnp_system.specs.Tables.{rows_tables}
 use Rattle.law_clnp_step.specs.Network.{is_end_of}
 use Rattle.law_clnp_step.proofs.Passed.{all_ticked}

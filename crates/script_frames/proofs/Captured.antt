@@ -7,7 +7,7 @@ use Rattle.capture_write.specs.Written.{IsWritable, SentFrame, record_of}
 use Rattle.capture_write.proofs.Records.{writes_capture}
 use Rattle.line_loop.specs.Course.{IsOver, IsTooMuch, IsTooMuchAtEnd, Runs}
 use Rattle.line_loop.specs.Lines.{open_line, whole_lines, without_return}
-use Rattle.lan_bag.specs.declared.setup.PortRow.{PortRow}
+use Rattle.lan_step.specs.declared.row.PortRow.{PortRow}
 use Rattle.script_journal.specs.RawLawful.{clock_after, clock_from}
 use Rattle.script_journal.specs.declared.event.Event.{Event}
 use Rattle.script_journal.specs.declared.event.Event.TheVariants as events

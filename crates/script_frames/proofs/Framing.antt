@@ -4,7 +4,7 @@ use Rattle.std.proofs.lemmas.List.{append-nil, length-drop, take_all}
 use Rattle.std.specs.List.{AllByRecursion}
 use Rattle.std.specs.Prelude.{OnOk, Result}
 use Rattle.capture_write.specs.Written.{IsWritable, SentFrame, records_octets}
-use Rattle.lan_bag.specs.Frames.{Frame, frame_of, kept}
+use Rattle.lan_step.specs.Frames.{Frame, frame_of, kept}
 use Rattle.line_loop.proofs.Calls.{on_ok}
 use Rattle.line_loop.specs.Meaning.{HasRun}
 use Rattle.line_loop.specs.declared.machine.LineError.{LineError}

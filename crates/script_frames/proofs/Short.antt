@@ -21,12 +21,12 @@ use Rattle.osi_base.specs.declared.unit.Wish.{Wish}
 use Rattle.osi_base.specs.Calls.{Call, Chain, Choose, Inject, NextUp, Offer, Tick}
 use Rattle.capture_write.specs.Written.{IsWritable, SentFrame, header_octets}
 use Rattle.lan_frame.specs.Frame.{whole_frame}
-use Rattle.lan_bag.specs.declared.setup.Lan.{Lan}
-use Rattle.lan_bag.specs.declared.setup.PortRow.{PortRow}
-use Rattle.lan_bag.specs.Bag.{Bag, BagStep, after_choose, after_inject, after_offer, after_pick, link_of, new_bag}
-use Rattle.lan_bag.specs.Frames.{Frame, frame_of, is_live, kept, kept_at, marked, marked_at, marked_frame}
-use Rattle.lan_bag.specs.Offers.{live_count, offered}
-use Rattle.lan_bag.specs.Rows.{IsLan, room_on, sender_of}
+use Rattle.lan_step.specs.declared.row.Lan.{Lan}
+use Rattle.lan_step.specs.declared.row.PortRow.{PortRow}
+use Rattle.lan_step.specs.Bag.{Bag, BagStep, after_choose, after_inject, after_offer, after_pick, link_of, new_bag}
+use Rattle.lan_step.specs.Frames.{Frame, frame_of, is_live, kept, kept_at, marked, marked_at, marked_frame}
+use Rattle.lan_step.specs.Offers.{live_count, offered}
+use Rattle.lan_step.specs.Rows.{IsLan, room_on, sender_of}
 use Rattle.esis_tables.specs.Rows.{Rows}
 use Rattle.clnp_system.specs.Node.{Node}
 use Rattle.clnp_system.specs.Tables.{rows_tables}
@@ -62,7 +62,7 @@ use Rattle.law_setup.proofs.OneLine.{one_begin, one_line}
 use Rattle.law_setup.proofs.Placing.{entities_ready, titles_own}
 use Rattle.law_run.specs.Bench.{Bench, RunsText, first_bench, most_events}
 use Rattle.law_run.specs.World.{TransportNet, Net, NetDoes, SetsUp, StartsUp, World, WorldStep, is_start, link_of_net, world_acts}
-use Rattle.law_run.specs.steps.WorldLaws.{ran_line, started, world_keeping, world_laws}
+use Rattle.law_run.proofs.WorldLaws.{ran_line, started, world_keeping, world_laws}
 use Rattle.script_frames.specs.Frames.{AsksSomeCapture, MakesFrames, frames_meaning, new_slots, sent_in, sent_of, slots_of}
 use Rattle.script_frames.specs.steps.FrameLaws.{frames_laws}
 

@@ -13,10 +13,10 @@ use Rattle.osi_base.specs.declared.unit.Up.{Up}
 use Rattle.osi_base.specs.declared.unit.Up.TheVariants.{Unit as Came, Note as Noted}
 use Rattle.capture_write.specs.Written.{SentFrame}
 use Rattle.lan_frame.specs.Frame.{whole_frame}
-use Rattle.lan_bag.specs.Bag.{Bag}
-use Rattle.lan_bag.specs.Frames.{Frame, kept, marked, marked_at, marked_frame}
-use Rattle.lan_bag.specs.Rows.{sender_of}
-use Rattle.lan_bag.specs.declared.setup.PortRow.{PortRow}
+use Rattle.lan_step.specs.Bag.{Bag}
+use Rattle.lan_step.specs.Frames.{Frame, kept, marked, marked_at, marked_frame}
+use Rattle.lan_step.specs.Rows.{sender_of}
+use Rattle.lan_step.specs.declared.row.PortRow.{PortRow}
 use Rattle.script_journal.specs.RawLawful.{clock_after, clock_from}
 use Rattle.script_journal.specs.declared.event.Event.{Event}
 use Rattle.script_frames.specs.Frames.{AreTold, ToldFrame, sent_in, told_by, told_from}

@@ -17,9 +17,9 @@ use Rattle.osi_base.specs.declared.unit.Up.{Up}
 use Rattle.osi_base.specs.declared.unit.Up.TheVariants.{Unit as Came, Note as Noted}
 use Rattle.osi_base.specs.declared.unit.Wish.{Wish}
 use Rattle.osi_base.specs.Calls.{Call}
-use Rattle.lan_bag.specs.Bag.{Bag, new_bag}
-use Rattle.lan_bag.specs.Frames.{kept_at}
-use Rattle.lan_bag.specs.declared.setup.PortRow.{PortRow}
+use Rattle.lan_step.specs.Bag.{Bag, new_bag}
+use Rattle.lan_step.specs.Frames.{kept_at}
+use Rattle.lan_step.specs.declared.row.PortRow.{PortRow}
 use Rattle.script_journal.specs.RawLawful.{clock_after, clock_from, raw_address}
 use Rattle.script_journal.specs.declared.cause.Refused.{Refused}
 use Rattle.script_journal.specs.declared.cause.Refused.TheVariants as refusals
@@ -52,7 +52,7 @@ use Rattle.tp4_world.specs.declared.place.EndAt.{EndAt}
 use Rattle.tp4_world.specs.declared.place.Placed.{Placed}
 use Rattle.script_frames.specs.Frames.{AreTold, ToldFrame, new_slots, sent_in, slots_of, told_by, told_from}
 use Rattle.law_run.specs.World.{TransportNet, Net, NetDoes, SetsUp, StartsUp, WorldStep, is_start, link_of_net, running}
-use Rattle.law_run.specs.steps.WorldLaws.{ran_line, started}
+use Rattle.law_run.proofs.WorldLaws.{ran_line, started}
 use Rattle.law_run.specs.World.{World}
 use Rattle.script_world.specs.declared.play.World.TheVariants.{SettingUp, Running}
 use Rattle.script_frames.proofs.ToldFrames.{ArePlain, Grows, IsPlain, clock_from-append, counted, entries_length, first_told, grows_none, grows_on, new_told, noted, noted_by, plain_clock, plain_none, told_from-append, told_length}

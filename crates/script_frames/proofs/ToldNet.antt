@@ -21,12 +21,12 @@ use Rattle.osi_base.specs.declared.unit.Wish.{Wish}
 use Rattle.osi_base.specs.Calls.{Call, Chain, Choose, Inject, NextUp, Offer, Tick}
 use Rattle.osi_base.specs.Gathering.{Gathers, takings}
 use Rattle.lan_frame.specs.Frame.{Framed, frame_in}
-use Rattle.lan_bag.specs.Bag.{Bag, BagStep, after_choose, after_inject, after_offer, after_pick, frame_note, link_of}
-use Rattle.lan_bag.specs.Frames.{Frame as SentOne, frame_of, kept_at}
-use Rattle.lan_bag.specs.Offers.{live_count, offered}
-use Rattle.lan_bag.specs.Reading.{up_in, ups_of}
-use Rattle.lan_bag.specs.Rows.{room_on, sender_of}
-use Rattle.lan_bag.specs.declared.setup.PortRow.{PortRow}
+use Rattle.lan_step.specs.Bag.{Bag, BagStep, after_choose, after_inject, after_offer, after_pick, frame_note, link_of}
+use Rattle.lan_step.specs.Frames.{Frame as SentOne, frame_of, kept_at}
+use Rattle.lan_step.specs.Offers.{live_count, offered}
+use Rattle.lan_step.specs.Reading.{up_in, ups_of}
+use Rattle.lan_step.specs.Rows.{room_on, sender_of}
+use Rattle.lan_step.specs.declared.row.PortRow.{PortRow}
 use Rattle.clnp_system.specs.Node.{Node, Reaction}
 use Rattle.clnp_system.specs.Tables.{rows_tables}
 use Rattle.law_clnp_step.specs.Handling.{Handles, IsReceived, Nobody, OffersFrame, OffersFrames, Somebody, TicksAll, drop_note, notes_of}

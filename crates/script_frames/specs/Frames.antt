@@ -3,10 +3,10 @@ use Rattle.std.specs.Prelude.{◌≡◌, ℕ, ◌+◌, ◌≤◌, List, [], ◌�
 use Rattle.std.specs.List.{AllByRecursion, count_by}
 use Rattle.osi_base.specs.declared.status.Status.{Status}
 use Rattle.lan_frame.specs.Frame.{whole_frame}
-use Rattle.lan_bag.specs.Bag.{Bag}
-use Rattle.lan_bag.specs.Frames.{Frame}
-use Rattle.lan_bag.specs.Rows.{sender_of}
-use Rattle.lan_bag.specs.declared.setup.PortRow.{PortRow}
+use Rattle.lan_step.specs.Bag.{Bag}
+use Rattle.lan_step.specs.Frames.{Frame}
+use Rattle.lan_step.specs.Rows.{sender_of}
+use Rattle.lan_step.specs.declared.row.PortRow.{PortRow}
 use Rattle.capture_write.specs.Written.{IsWritable, SentFrame, capture_of, header_octets, record_of, records_octets}
 use Rattle.line_loop.specs.Course.{Runs}
 use Rattle.line_loop.specs.Limits.{most_octets, most_read}

@@ -4,9 +4,9 @@ use Rattle.std.specs.Prelude.{if◌then◌else◌, map, option_map, slice_get, s
 use Rattle.std.specs.List.{AllByRecursion}
 use Rattle.nsap.specs.declared.port.Hop.{Hop}
 use Rattle.nsap.specs.declared.port.Port.{Port}
-use Rattle.lan_bag.specs.declared.setup.Lan.{Lan}
-use Rattle.lan_bag.specs.declared.setup.PortRow.{PortRow}
-use Rattle.lan_bag.specs.Rows.{IsLan}
+use Rattle.lan_step.specs.declared.row.Lan.{Lan}
+use Rattle.lan_step.specs.declared.row.PortRow.{PortRow}
+use Rattle.lan_step.specs.Rows.{IsLan}
 use Rattle.script_lines.specs.declared.settings.Key.{Key}
 use Rattle.script_lines.specs.declared.settings.Key.TheVariants as keys
 use Rattle.script_lines.specs.Settings.{least_of, most_of}

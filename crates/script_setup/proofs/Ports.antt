@@ -5,8 +5,8 @@ use Rattle.std.specs.List.{AllByRecursion}
 use Rattle.std.proofs.lemmas.Bool.Decides.{nat_tests}
 use Rattle.std.proofs.lemmas.List.Elements.{All-from_recursion, recursion_from_All}
 use Rattle.nsap.specs.declared.port.Port.{Port}
-use Rattle.lan_bag.specs.declared.setup.PortRow.{PortRow}
-use Rattle.lan_bag.specs.Rows.{AreApart, AreAllApart}
+use Rattle.lan_step.specs.declared.row.PortRow.{PortRow}
+use Rattle.lan_step.specs.Rows.{AreApart, AreAllApart}
 use Rattle.clnp_system.specs.Setting.{AreApart as AreOnDifferentLans}
 use Rattle.script_setup.specs.SetUp.{ports_at}
 use Rattle.script_setup.proofs.Elements.{push}

@@ -12,11 +12,11 @@ use Rattle.nsap.specs.declared.port.Port.{Port}
 use Rattle.inactive_step.specs.declared.row.InactiveRow.{InactiveRow}
 use Rattle.inactive_step.specs.Rows.{AreAllApart as AreRowsApart, AreApart as AreTwoApart, AreServed, IsPromised}
 use Rattle.inactive_step.proofs.Found.{equal_numbers, same_numbers}
-use Rattle.lan_bag.specs.declared.setup.Lan.{Lan}
-use Rattle.lan_bag.specs.declared.setup.PortRow.{PortRow}
-use Rattle.lan_bag.specs.Bag.{Bag, link_of, new_bag}
-use Rattle.lan_bag.specs.Rows.{AreAllApart, AreApart, IsLan, room_on, same_port, same_snpa, sender_of}
-use Rattle.lan_bag.specs.Receivers.{goes_to, group_of_kind, is_one_of}
+use Rattle.lan_step.specs.declared.row.Lan.{Lan}
+use Rattle.lan_step.specs.declared.row.PortRow.{PortRow}
+use Rattle.lan_step.specs.Bag.{Bag, link_of, new_bag}
+use Rattle.lan_step.specs.Rows.{AreAllApart, AreApart, IsLan, room_on, same_port, same_snpa, sender_of}
+use Rattle.lan_step.specs.Receivers.{goes_to, group_of_kind, is_one_of}
 use Rattle.clnp_system.specs.Setting.{is_group}
 use Rattle.script_setup.specs.Fitting.{AreTitlesApart, IsWell}
 use Rattle.script_setup.specs.Inactive.{inactive_at, inactive_from, inactive_rows, port_of, row_of}

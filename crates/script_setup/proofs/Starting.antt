@@ -6,10 +6,10 @@ use Rattle.std.proofs.lemmas.List.Elements.{All-from_recursion}
 use Rattle.nsap.specs.Address.{is_same_system}
 use Rattle.nsap.specs.declared.port.Port.{Port}
 use Rattle.esis_tables.specs.Rows.{Rows, no_rows}
-use Rattle.lan_bag.specs.declared.setup.Lan.{Lan}
-use Rattle.lan_bag.specs.declared.setup.PortRow.{PortRow}
-use Rattle.lan_bag.specs.Bag.{Bag, BagStep, link_of, new_bag}
-use Rattle.lan_bag.specs.Rows.{IsLan, IsSetUp, bound_on}
+use Rattle.lan_step.specs.declared.row.Lan.{Lan}
+use Rattle.lan_step.specs.declared.row.PortRow.{PortRow}
+use Rattle.lan_step.specs.Bag.{Bag, BagStep, link_of, new_bag}
+use Rattle.lan_step.specs.Rows.{IsLan, IsSetUp, bound_on}
 use Rattle.clnp_route.specs.declared.table.RouteRow.{RouteRow}
 use Rattle.clnp_system.specs.Node.{Node, fresh_node}
 use Rattle.clnp_system.specs.Tables.{rows_tables}

@@ -2,8 +2,8 @@
 use Rattle.std.specs.Prelude.{◌≡◌, ℕ, ◌<◌, ◌≤◌, true, false, if◌then◌else◌, List, [], ◌∷◌, ◌++◌, length, IsSome}
 use Rattle.std.specs.List.{AllByRecursion}
 use Rattle.nsap.specs.Address.{selector_of, is_same_system}
-use Rattle.lan_bag.specs.declared.setup.Lan.{Lan}
-use Rattle.lan_bag.specs.Rows.{IsLan, AreAllApart, same_snpa}
+use Rattle.lan_step.specs.declared.row.Lan.{Lan}
+use Rattle.lan_step.specs.Rows.{IsLan, AreAllApart, same_snpa}
 use Rattle.clnp_route.specs.Routes.{has_prefix}
 use Rattle.clnp_system.specs.Setting.{IsPath, is_group}
 use Rattle.script_lines.specs.declared.line.Line.{Line}

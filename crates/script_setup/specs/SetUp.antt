@@ -6,8 +6,8 @@ use Rattle.nsap.specs.Address.{system_part}
 use Rattle.nsap.specs.declared.port.Hop.{Hop}
 use Rattle.nsap.specs.declared.port.Port.{Port}
 use Rattle.esis_tables.specs.Rows.{Rows, no_rows}
-use Rattle.lan_bag.specs.declared.setup.Lan.{Lan}
-use Rattle.lan_bag.specs.declared.setup.PortRow.{PortRow}
+use Rattle.lan_step.specs.declared.row.Lan.{Lan}
+use Rattle.lan_step.specs.declared.row.PortRow.{PortRow}
 use Rattle.clnp_route.specs.declared.table.RouteRow.{RouteRow}
 use Rattle.clnp_system.specs.declared.setup.Path.{Path}
 use Rattle.clnp_system.specs.Node.{Node, fresh_node}

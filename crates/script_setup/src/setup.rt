@@ -4,8 +4,8 @@
 ghost use Rattle.std.specs.Prelude.{◌≡◌, ◌<◌, ◌≤◌, ◌++◌, ◌∷◌, [], length, map, IfOk, OnOk};
 ghost use Rattle.std.specs.List.{AllByRecursion};
 ghost use Rattle.clnp_system.specs.Setting.{IsSetting};
-ghost use Rattle.lan_bag.specs.Bag.{new_bag};
-ghost use Rattle.lan_bag.specs.Rows.{IsLan};
+ghost use Rattle.lan_step.specs.Bag.{new_bag};
+ghost use Rattle.lan_step.specs.Rows.{IsLan};
 ghost use Rattle.script_setup.specs.Fitting.{AreLimits, AreSelectorsApart, IsWell};
 ghost use Rattle.script_setup.specs.SetUp.{System as SystemSaid, is_complete, nodes_from};
 ghost use Rattle.script_setup.specs.declared.relay.RelayLine.{RelayLine as Said};
@@ -59,7 +59,7 @@ impl Drop for SetUp {
 
 impl SetUp {
     ghost use Rattle.esis_tables.specs.Rows.{no_rows};
-    ghost use Rattle.lan_bag.specs.Bag.{BagStep, link_of};
+    ghost use Rattle.lan_step.specs.Bag.{BagStep, link_of};
     ghost use Rattle.law_clnp_step.specs.Step.{Begins};
     ghost use Rattle.inactive_step.specs.Network.{new_inactive};
     ghost use Rattle.script_setup.specs.Inactive.{inactive_rows};

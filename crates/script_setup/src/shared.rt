@@ -1,8 +1,8 @@
 //! What all systems of a script share (X.233, network entity title, route PDU; ISO 9542, configuration information).
 
 ghost use Rattle.std.specs.Prelude.{◌≡◌, ◌≤◌, ◌++◌, ◌∷◌, [], map, IfOk, OnErr, OnOk};
-ghost use Rattle.lan_bag.specs.Bag.{new_bag};
-ghost use Rattle.lan_bag.specs.Rows.{IsSetUp};
+ghost use Rattle.lan_step.specs.Bag.{new_bag};
+ghost use Rattle.lan_step.specs.Rows.{IsSetUp};
 ghost use Rattle.script_setup.specs.SetUp.{port_on, ports_at};
 
 use crate::relay::RelayLine;

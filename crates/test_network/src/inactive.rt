@@ -1,7 +1,7 @@
 //! A network by the inactive subset over two LANs: each unit is one frame, counted by hand.
 
 ghost use Rattle.std.specs.Prelude.{◌≡◌, ◌∷◌, [], true, IfOk};
-ghost use Rattle.lan_bag.specs.Bag.{new_bag};
+ghost use Rattle.lan_step.specs.Bag.{new_bag};
 
 use crate::carriers::answer;
 use crate::lans::frame;

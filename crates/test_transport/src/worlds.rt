@@ -2,7 +2,7 @@
 
 ghost use Rattle.std.specs.Prelude.{◌≡◌, ◌≤◌, ◌++◌, List, ℕ, [], ◌∷◌, length, true, IfOk, IsSome};
 ghost use Rattle.std.specs.List.{AllByRecursion};
-ghost use Rattle.lan_bag.specs.Bag.{new_bag};
+ghost use Rattle.lan_step.specs.Bag.{new_bag};
 ghost use Rattle.script_journal.specs.Lawful.{Lawful};
 ghost use Rattle.tp4_conn.specs.End.{IsSized, IsTimed, frozen_for};
 ghost use Rattle.tp4_conn.specs.declared.timers.Timers.{Timers as Times};

@@ -3,7 +3,7 @@ use Rattle.std.proofs.Common.{◌≡◌, ◌≢◌, ◌==◌, ◌||◌, ℕ, zer
 use Rattle.std.specs.List.{list_any}
 use Rattle.std.proofs.lemmas.Bool.{ne_eqb}
 use Rattle.std.proofs.lemmas.Bool.Decides.{nat_tests}
-use Rattle.pdu_parts.specs.steps.Reading.{◌>>=◌}
+use Rattle.pdu_parts.proofs.Readings.{◌>>=◌}
 use Rattle.tpdu.specs.Faults.{IsTpduFault, format_at, header, indicator, reference}
 use Rattle.tpdu.specs.Grammar.{BeginsWithTpdu}
 use Rattle.tpdu.specs.Kinds.{is_request}

@@ -4,6 +4,7 @@ pub mod Bundles
 pub mod Clearing
 pub mod Dues
 pub mod Formats
+pub mod Heard
 pub mod Hearings
 pub mod PlaceLaws
 pub mod Restarts

@@ -35,7 +35,7 @@ use Rattle.tp4_entity.specs.Association.{met, met_by, unmatched}
 use Rattle.tp4_entity.specs.Entity.{Acted, Entity, at, end_at, moved, there}
 use Rattle.tp4_entity.specs.Step.{DoesSo}
 use Rattle.tp4_entity.specs.Unit.{Faulty, HearsUnit, Separates, Whole, all_met, extended_from, extended_of, followed, listed_if}
-use Rattle.tp4_entity.specs.steps.Heard.{Heard}
+use Rattle.tp4_entity.proofs.Heard.{Heard}
 use Rattle.tp4_entity.specs.steps.Places.{format_of}
 use Rattle.tp4_entity.proofs.PlaceLaws.{Place, nothing_told, end_at_of}
 

@@ -1,3 +1,2 @@
 -- What only carries proofs.
-pub mod Heard
 pub mod Places

@@ -1,7 +1,7 @@
 -- What a reader that gives the reading of its octets owes its callers: the grammar both ways, and the first fault.
 use Rattle.std.proofs.Common.{◌≡◌, ℕ, List, Result, Ok, Err, sym, ap, ◌∙◌}
 use Rattle.std.specs.Prelude.{IfOk, IfErr, IsOkAnd}
-use Rattle.pdu_parts.specs.steps.Reading.{Gives}
+use Rattle.pdu_parts.proofs.Readings.{Gives}
 use Rattle.tpdu.specs.declared.fault.TpduFault.{TpduFault}
 use Rattle.tpdu.specs.Faults.{IsTpduFault}
 use Rattle.tpdu.specs.Grammar.{BeginsWithTpdu}

@@ -7,7 +7,7 @@ use Rattle.tpdu.specs.declared.fault.TpduFault.{TpduFault}
 use Rattle.tpdu.specs.declared.kind.Kind.{Kind}
 use Rattle.pdu_parts.specs.FirstFault.{first_failing}
 use Rattle.pdu_parts.specs.Parameter.{Parameter, front_parameter, parameters_in, left_in}
-use Rattle.pdu_parts.specs.steps.Reading.{GivesSome, unless}
+use Rattle.pdu_parts.proofs.Readings.{GivesSome, unless}
 use Rattle.tpdu.specs.Parameters.{trouble, sum_place, last_value}
 use Rattle.tpdu.specs.Faults.{parameter_steps}
 use Rattle.tpdu.specs.steps.Reading.{judged, parameter_by, parameter_at, checked}

@@ -6,7 +6,7 @@ use Rattle.std.proofs.lemmas.List.{length-take}
 use Rattle.osi_base.specs.Fletcher.{is_sealed}
 use Rattle.pdu_parts.specs.FirstFault.{must, first_failing}
 use Rattle.pdu_parts.specs.Parameter.{parameters_in, left_in}
-use Rattle.pdu_parts.specs.steps.Reading.{◌>>=◌, unless}
+use Rattle.pdu_parts.proofs.Readings.{◌>>=◌, unless}
 use Rattle.tpdu.specs.declared.fault.TpduCause.TheVariants.{Short, Length, Fixed, Class, Checksum, Body}
 use Rattle.tpdu.specs.declared.fault.TpduFault.{TpduFault}
 use Rattle.tpdu.specs.declared.kind.Kind.{Kind}

@@ -9,7 +9,7 @@ use Rattle.tpdu.specs.declared.kind.Kind.{Kind}
 use Rattle.tpdu.specs.declared.tpdu.Format.{Format}
 use Rattle.tpdu.specs.Kinds.{kind_of, fixed_count, is_request, is_connect, takes_rest, data_suits}
 use Rattle.tpdu.specs.Faults.{indicator, header, behind, format_at}
-use Rattle.pdu_parts.specs.steps.Reading.{◌>>=◌, unless}
+use Rattle.pdu_parts.proofs.Readings.{◌>>=◌, unless}
 use Rattle.tpdu.specs.steps.Reading.{Head, head_for, head_by, head_at, Sections, sections_by, sections_at, close_at}
 
 -- ---- steps that passed

@@ -3,7 +3,7 @@
 ghost use Rattle.std.specs.Prelude.{◌≡◌, ◌==◌, ◌+◌, ◌<◌, ◌^◌, ◌≢◌, ◌∷◌, length, IfOk, Some, None, if◌then◌else◌};
 ghost use Rattle.pdu_parts.specs.Lent.{parameter_of};
 ghost use Rattle.pdu_parts.specs.Parameter.{parameters_in};
-ghost use Rattle.pdu_parts.specs.steps.Reading.{Gives, GivesSome};
+ghost use Rattle.pdu_parts.proofs.Readings.{Gives, GivesSome};
 ghost use Rattle.tpdu.specs.Parameters.{lengths_in, lengths_of, sum_rows, size_of, preferred_of, number_in, has_sizes, trouble, last_value, octet_in, pair_in};
 ghost use Rattle.tpdu.specs.steps.Reading.{checked, parameter_at};
 ghost use Rattle.tpdu.specs.Values.{octet_under, pair_under, preferred, size, text};

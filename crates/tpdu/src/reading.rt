@@ -1,7 +1,7 @@
 //! Reading TPDUs, several of which may follow one another in a unit (X.224, concatenation and separation).
 
 ghost use Rattle.std.specs.Prelude.{◌≡◌, ◌+◌, ◌<◌, ◌≤◌, List, ℕ, length, slice_index, IfOk, IfErr, IsOkAnd};
-ghost use Rattle.pdu_parts.specs.steps.Reading.{Gives};
+ghost use Rattle.pdu_parts.proofs.Readings.{Gives};
 ghost use Rattle.tpdu.specs.Faults.{IsTpduFault, indicator};
 ghost use Rattle.tpdu.specs.Grammar.{BeginsWithTpdu};
 ghost use Rattle.tpdu.specs.Kinds.{fixed_count};

@@ -4,7 +4,7 @@ use Rattle.pdu_parts.specs.Checksum.{checksum_in}
 use Rattle.pdu_parts.specs.Field.{address_at}
 use Rattle.pdu_parts.specs.Number.{number_at}
 use Rattle.pdu_parts.specs.Parameter.{Parameter, parameters_in}
-use Rattle.pdu_parts.specs.steps.Reading.{◌>>=◌, found_or, unless}
+use Rattle.pdu_parts.proofs.Readings.{◌>>=◌, found_or, unless}
 use Rattle.clnp_options.specs.Faults.{first_fault as first_options_fault}
 use Rattle.clnp_options.specs.declared.reason.Fault.{Fault}
 use Rattle.clnp_options.specs.declared.reason.PduKind.TheVariants.{Dt, Er}

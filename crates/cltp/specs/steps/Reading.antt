@@ -4,7 +4,7 @@ use Rattle.std.specs.Option.{option_or}
 use Rattle.osi_base.specs.Fletcher.{is_sealed}
 use Rattle.pdu_parts.specs.FirstFault.{first_failing}
 use Rattle.pdu_parts.specs.Parameter.{Parameter, front_parameter, parameters_in, left_in}
-use Rattle.pdu_parts.specs.steps.Reading.{◌>>=◌, unless}
+use Rattle.pdu_parts.proofs.Readings.{◌>>=◌, unless}
 use Rattle.script_journal.specs.declared.cause.UdCause.{UdCause}
 use Rattle.script_journal.specs.declared.cause.UdCause.TheVariants.{Short, Length, Code, Param, Missing, Checksum}
 use Rattle.cltp.specs.declared.fault.UdFault.{UdFault}

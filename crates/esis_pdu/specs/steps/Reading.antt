@@ -3,7 +3,7 @@ use Rattle.std.specs.Prelude.{ℕ, nat_le, if◌then◌else◌, List, length, dr
 use Rattle.std.specs.Option.{is_some}
 use Rattle.pdu_parts.specs.Checksum.{checksum_in}
 use Rattle.pdu_parts.specs.Number.{number_at}
-use Rattle.pdu_parts.specs.steps.Reading.{◌>>=◌}
+use Rattle.pdu_parts.proofs.Readings.{◌>>=◌}
 use Rattle.esis_pdu.specs.declared.fault.EsisFault.{EsisFault}
 use Rattle.esis_pdu.specs.declared.fault.EsisFault.TheVariants as faults
 use Rattle.esis_pdu.specs.Addresses.{addresses_at, parts_at}

@@ -4,8 +4,8 @@ use Rattle.std.specs.BTreeSet.{BTreeSet, IsUnchanged, Updates}
 use Rattle.std.specs.Ordering.{nat_cmp}
 use Rattle.osi_base.specs.declared.unit.Unit.{Unit as CarriedUnit}
 use Rattle.nsap.specs.declared.port.Port.{Port}
-use Rattle.lan_bag.specs.declared.setup.Lan.{Lan}
-use Rattle.lan_bag.specs.Frames.{Frame, kept, carries_live}
+use Rattle.lan_step.specs.declared.row.Lan.{Lan}
+use Rattle.lan_step.specs.Frames.{Frame, kept, carries_live}
 
 -- a sum with the octets behind what was added up
 abbrev pub sum_from : ℕ → List ℕ → ℕ

@@ -1,11 +1,11 @@
 -- The frames that a system can take and has not: the first of them, and the least system that can take it.
 use Rattle.std.specs.Prelude.{◌≡◌, ℕ, ◌+◌, ◌<◌, ◌≤◌, Bool, true, false, not, ◌&&◌, nat_lt, if◌then◌else◌, List, length, Option, Some, None, slice_get}
 use Rattle.std.specs.List.{list_any}
-use Rattle.lan_bag.specs.declared.setup.Lan.{Lan}
-use Rattle.lan_bag.specs.declared.setup.PortRow.{PortRow}
-use Rattle.lan_bag.specs.Rows.{has_sent}
-use Rattle.lan_bag.specs.Receivers.{is_one_of}
-use Rattle.lan_bag.specs.Frames.{Frame, has_taken, kept, is_live, picked_of, is_taken}
+use Rattle.lan_step.specs.declared.row.Lan.{Lan}
+use Rattle.lan_step.specs.declared.row.PortRow.{PortRow}
+use Rattle.lan_step.specs.Rows.{has_sent}
+use Rattle.lan_step.specs.Receivers.{is_one_of}
+use Rattle.lan_step.specs.Frames.{Frame, has_taken, kept, is_live, picked_of, is_taken}
 
 -- the lesser of two systems, where there are two
 abbrev pub lesser_of : Option ℕ → ℕ → ℕ

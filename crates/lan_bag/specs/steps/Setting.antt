@@ -1,9 +1,9 @@
 -- The LANs and the ports, as they are kept.
 use Rattle.std.specs.Prelude.{◌≡◌, ℕ, ◌<◌, ◌==◌, Bool, true, false, List, [], length, get_or}
 use Rattle.std.specs.List.{filter, list_any}
-use Rattle.lan_bag.specs.declared.setup.Lan.{Lan}
-use Rattle.lan_bag.specs.declared.setup.PortRow.{PortRow}
-use Rattle.lan_bag.specs.Receivers.{is_named_by, group_of_kind}
+use Rattle.lan_step.specs.declared.row.Lan.{Lan}
+use Rattle.lan_step.specs.declared.row.PortRow.{PortRow}
+use Rattle.lan_step.specs.Receivers.{is_named_by, group_of_kind}
 
 -- the LANs and the ports
 pub record Setting : Type 0 where

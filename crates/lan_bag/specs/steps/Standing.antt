@@ -1,8 +1,8 @@
 -- What the LANs keep true between two calls.
 use Rattle.std.specs.Prelude.{◌≡◌, ℕ, Bool, true, List, Option}
 use Rattle.std.specs.List.{All}
-use Rattle.lan_bag.specs.Rows.{IsLan}
-use Rattle.lan_bag.specs.Frames.{Frame}
+use Rattle.lan_step.specs.Rows.{IsLan}
+use Rattle.lan_step.specs.Frames.{Frame}
 use Rattle.lan_bag.specs.steps.Index.{AreIndexed}
 use Rattle.lan_bag.specs.steps.Openings.{IsFreshAt}
 use Rattle.lan_bag.specs.steps.Setting.{Setting}

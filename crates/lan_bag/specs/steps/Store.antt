@@ -1,8 +1,8 @@
 -- The frames by their numbers: the late ones before the slots, and the octets of each.
 use Rattle.std.specs.Prelude.{◌≡◌, ℕ, ◌≤◌, ◌+◌, List, length, drop, Option, Some, None}
 use Rattle.lan_frame.specs.Frame.{whole_frame}
-use Rattle.lan_bag.specs.Frames.{Frame, marked}
-use Rattle.lan_bag.specs.Offers.{live_count}
+use Rattle.lan_step.specs.Frames.{Frame, marked}
+use Rattle.lan_step.specs.Offers.{live_count}
 
 -- the octets are those of the whole frame of what follows its header, and no more than a frame has
 pub record IsWhole (to from whole : List ℕ) : Type 0 where

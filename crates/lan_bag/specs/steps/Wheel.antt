@@ -1,9 +1,9 @@
 -- How long each frame may still be taken: the timing wheel (X.233, PDU lifetime control).
 use Rattle.std.specs.Prelude.{◌≡◌, ℕ, ◌+◌, false, List, [], ◌∷◌, ◌++◌, drop, get_or, Option, Some, slice_get, slice_set}
 use Rattle.std.specs.List.{Contains}
-use Rattle.lan_bag.specs.declared.setup.Lan.{Lan}
-use Rattle.lan_bag.specs.Rows.{bound_on}
-use Rattle.lan_bag.specs.Frames.{Frame, kept, kept_at, is_live}
+use Rattle.lan_step.specs.declared.row.Lan.{Lan}
+use Rattle.lan_step.specs.Rows.{bound_on}
+use Rattle.lan_step.specs.Frames.{Frame, kept, kept_at, is_live}
 
 -- the places of the frames that may be taken for so many ticks more
 abbrev pub list_at : List (List ℕ) → ℕ → List ℕ

@@ -20,14 +20,14 @@ use Rattle.osi_base.specs.Gathering.{Gathers}
 use Rattle.law_carrier_answers.specs.Answers.{AlwaysAnswers, AreOctets, Asked, CanBeAsked, Offering, Choosing, Injecting, TakingUp, Ticking, IsAnswered, asked_of}
 use Rattle.law_carrier_answers.proofs.Gatherings.{some_gathering}
 use Rattle.lan_frame.specs.Frame.{has_llc, is_alien, length_field}
-use Rattle.lan_bag.specs.Bag.{Bag, BagStep, after_choose, after_inject, after_offer, after_pick, frame_note, link_of, picked_in}
-use Rattle.lan_bag.specs.Frames.{frame_of, is_live, kept, kept_at, marked, marked_at, marked_frame}
-use Rattle.lan_bag.specs.Offers.{offered}
-use Rattle.lan_bag.specs.Frames.{Frame as LanFrame}
-use Rattle.lan_bag.specs.Reading.{up_in, ups_of}
-use Rattle.lan_bag.specs.Rows.{is_on, sender_of}
-use Rattle.lan_bag.specs.declared.setup.Lan.{Lan}
-use Rattle.lan_bag.specs.steps.Keeping.{bag_keeps}
+use Rattle.lan_step.specs.Bag.{Bag, BagStep, after_choose, after_inject, after_offer, after_pick, frame_note, link_of, picked_in}
+use Rattle.lan_step.specs.Frames.{frame_of, is_live, kept, kept_at, marked, marked_at, marked_frame}
+use Rattle.lan_step.specs.Offers.{offered}
+use Rattle.lan_step.specs.Frames.{Frame as LanFrame}
+use Rattle.lan_step.specs.Reading.{up_in, ups_of}
+use Rattle.lan_step.specs.Rows.{is_on, sender_of}
+use Rattle.lan_step.specs.declared.row.Lan.{Lan}
+use Rattle.lan_step.proofs.Keeping.{bag_keeps}
 use Rattle.law_clnp_answers.specs.Standing.{FitsBag, FitsKept, FitsUp, IsFrame, IsNsap, IsSnpa, are_octets, is_nsap, is_port}
 use Rattle.law_clnp_step.proofs.Lists.{all_both}
 use Rattle.law_clnp_answers.proofs.written.Octets.{octets_drop, octets_take}

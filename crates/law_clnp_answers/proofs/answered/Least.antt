@@ -5,11 +5,11 @@ use Rattle.std.specs.Prelude.{◌&&◌}
 use Rattle.std.proofs.lemmas.Bool.{cases_Bool, cases_lt}
 use Rattle.std.proofs.lemmas.List.Elements.{All-cons, All-nil}
 use Rattle.osi_base.specs.Link.{IsLeastFresh}
-use Rattle.lan_bag.specs.declared.setup.Lan.{Lan}
-use Rattle.lan_bag.specs.declared.setup.PortRow.{PortRow}
-use Rattle.lan_bag.specs.Bag.{Bag, link_of}
-use Rattle.lan_bag.specs.Frames.{Frame, kept}
-use Rattle.lan_bag.specs.Receivers.{is_one_of}
+use Rattle.lan_step.specs.declared.row.Lan.{Lan}
+use Rattle.lan_step.specs.declared.row.PortRow.{PortRow}
+use Rattle.lan_step.specs.Bag.{Bag, link_of}
+use Rattle.lan_step.specs.Frames.{Frame, kept}
+use Rattle.lan_step.specs.Receivers.{is_one_of}
 use Rattle.lan_bag.specs.steps.Openings.{IsFirstOpen, IsLeastOpen, is_open, is_open_at, is_open_to}
 use Rattle.lan_bag.proofs.Openings.{IsLeastAmong, least_fresh, least_open, none_fresh, shut}
 

@@ -8,7 +8,7 @@ use Rattle.osi_base.specs.declared.unit.Offered.TheVariants.{Taken as WasTaken, 
 use Rattle.osi_base.specs.declared.unit.Unit.{Unit as CarriedUnit}
 use Rattle.osi_base.specs.declared.unit.Up.{Up}
 use Rattle.osi_base.specs.declared.unit.Up.TheVariants.{Unit as Came, Note as Noted}
-use Rattle.lan_bag.specs.Bag.{Bag, BagStep, link_of}
+use Rattle.lan_step.specs.Bag.{Bag, BagStep, link_of}
 use Rattle.esis_tables.specs.Rows.{Rows}
 use Rattle.clnp_system.specs.Node.{Node, Reaction}
 use Rattle.clnp_system.specs.Tables.{rows_tables}

@@ -1,8 +1,8 @@
 -- Such a network begins so.
 use Rattle.std.proofs.Common.{◌≡◌, inl, inr, ℕ, List, [], ◌∷◌, refl, sym, ◌∙◌, ap, subst, arith}
 use Rattle.std.specs.List.{Contains}
-use Rattle.lan_bag.specs.Bag.{Bag, BagStep, link_of, new_bag}
-use Rattle.lan_bag.specs.steps.Keeping.{bag_keeps}
+use Rattle.lan_step.specs.Bag.{Bag, BagStep, link_of, new_bag}
+use Rattle.lan_step.proofs.Keeping.{bag_keeps}
 use Rattle.esis_tables.specs.Rows.{Rows}
 use Rattle.clnp_system.specs.Node.{Frame, Node}
 use Rattle.clnp_system.specs.Setting.{Setting}

@@ -12,9 +12,9 @@ use Rattle.osi_base.specs.declared.unit.Up.TheVariants.{Unit as Came, Note as No
 use Rattle.osi_base.specs.Calls.{Call, Offer, Choose, Inject, NextUp, Tick}
 use Rattle.osi_base.specs.Gathering.{Gathers}
 use Rattle.nsap.specs.declared.port.Port.{Port}
-use Rattle.lan_bag.specs.Bag.{Bag, BagStep, after_choose, after_inject, after_offer, after_pick, link_of}
-use Rattle.lan_bag.specs.Frames.{Frame as LanFrame, frame_of}
-use Rattle.lan_bag.specs.declared.setup.PortRow.{PortRow}
+use Rattle.lan_step.specs.Bag.{Bag, BagStep, after_choose, after_inject, after_offer, after_pick, link_of}
+use Rattle.lan_step.specs.Frames.{Frame as LanFrame, frame_of}
+use Rattle.lan_step.specs.declared.row.PortRow.{PortRow}
 use Rattle.esis_tables.specs.Rows.{Rows}
 use Rattle.clnp_system.specs.Node.{Frame, Node}
 use Rattle.clnp_system.specs.Tables.{rows_tables}

@@ -11,10 +11,10 @@ use Rattle.osi_base.specs.declared.unit.Up.TheVariants.{Unit as Came, Note as No
 use Rattle.osi_base.specs.declared.unit.Wish.{Wish}
 use Rattle.osi_base.specs.Calls.{Call, Offer, Choose, Tick, Chooses, Ticks}
 use Rattle.osi_base.specs.Link.{IsLawful}
-use Rattle.lan_bag.specs.Bag.{Bag, BagStep, link_of}
-use Rattle.lan_bag.specs.Receivers.{goes_to, is_one_of}
-use Rattle.lan_bag.specs.declared.setup.PortRow.{PortRow}
-use Rattle.lan_bag.specs.steps.Keeping.{bag_keeps}
+use Rattle.lan_step.specs.Bag.{Bag, BagStep, link_of}
+use Rattle.lan_step.specs.Receivers.{goes_to, is_one_of}
+use Rattle.lan_step.specs.declared.row.PortRow.{PortRow}
+use Rattle.lan_step.proofs.Keeping.{bag_keeps}
 use Rattle.esis_tables.specs.Rows.{Rows}
 use Rattle.clnp_system.specs.Node.{Frame, Node}
 use Rattle.clnp_system.specs.Setting.{Setting, all_intermediates}

@@ -4,7 +4,7 @@ use Rattle.std.specs.List.{AllByRecursion, filter}
 use Rattle.nsap.specs.declared.port.Port.{Port}
 use Rattle.clnp_segment.specs.Store.{Holding}
 use Rattle.clnp_segment.specs.declared.store.Expired.{Expired}
-use Rattle.lan_bag.specs.declared.setup.PortRow.{PortRow}
+use Rattle.lan_step.specs.declared.row.PortRow.{PortRow}
 use Rattle.esis_tables.specs.Rows.{Rows, is_row_known}
 use Rattle.esis_tables.specs.declared.holding_time.Row.{Row}
 use Rattle.clnp_system.specs.Hellos.{is_due}

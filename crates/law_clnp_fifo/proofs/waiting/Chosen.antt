@@ -11,8 +11,8 @@ use Rattle.osi_base.specs.declared.unit.Up.{Up}
 use Rattle.osi_base.specs.declared.unit.Up.TheVariants.{Unit as Came}
 use Rattle.osi_base.specs.Calls.{Choose}
 use Rattle.osi_base.specs.Link.{IsLeastFresh}
-use Rattle.lan_bag.specs.Bag.{Bag, BagStep, link_of}
-use Rattle.lan_bag.specs.declared.setup.PortRow.{PortRow}
+use Rattle.lan_step.specs.Bag.{Bag, BagStep, link_of}
+use Rattle.lan_step.specs.declared.row.PortRow.{PortRow}
 use Rattle.esis_tables.specs.Rows.{Rows}
 use Rattle.clnp_segment.specs.Store.{Holding, Partial}
 use Rattle.clnp_system.specs.Node.{Frame, Node, Reaction}

@@ -5,8 +5,8 @@ use Rattle.nsap.specs.declared.port.Port.{Port}
 use Rattle.osi_base.specs.declared.unit.Unit.{Unit as CarriedUnit}
 use Rattle.osi_base.specs.declared.unit.Up.{Up}
 use Rattle.osi_base.specs.Link.{IsLeastFresh}
-use Rattle.lan_bag.specs.Bag.{Bag, BagStep, link_of}
-use Rattle.lan_bag.specs.declared.setup.PortRow.{PortRow}
+use Rattle.lan_step.specs.Bag.{Bag, BagStep, link_of}
+use Rattle.lan_step.specs.declared.row.PortRow.{PortRow}
 use Rattle.esis_tables.specs.Rows.{Rows}
 use Rattle.clnp_system.specs.Node.{Frame, Node}
 use Rattle.clnp_system.specs.Setting.{Setting}

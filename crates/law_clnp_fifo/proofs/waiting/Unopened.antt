@@ -5,12 +5,12 @@ use Rattle.std.proofs.lemmas.List.{append-nil}
 use Rattle.osi_base.specs.declared.unit.Picked.{Picked}
 use Rattle.osi_base.specs.declared.unit.Picked.TheVariants.{Late}
 use Rattle.osi_base.specs.Link.{IsLeastFresh}
-use Rattle.lan_bag.specs.declared.setup.Lan.{Lan}
-use Rattle.lan_bag.specs.declared.setup.PortRow.{PortRow}
-use Rattle.lan_bag.specs.Bag.{Bag, link_of, took_by}
-use Rattle.lan_bag.specs.Frames.{Frame, has_taken, is_live, is_taken, kept, picked_of}
+use Rattle.lan_step.specs.declared.row.Lan.{Lan}
+use Rattle.lan_step.specs.declared.row.PortRow.{PortRow}
+use Rattle.lan_step.specs.Bag.{Bag, link_of, took_by}
+use Rattle.lan_step.specs.Frames.{Frame, has_taken, is_live, is_taken, kept, picked_of}
 use Rattle.lan_bag.specs.steps.Openings.{is_open_to}
-use Rattle.lan_bag.specs.steps.Places.{takes_at, takes_in}
+use Rattle.lan_step.proofs.Places.{takes_at, takes_in}
 use Rattle.law_clnp_fifo.specs.Frames.{HasWaiting, IsSpent}
 
 any_never : {X : Type 0} (test : X → Bool) → ((x : X) → test x ≡ false) → (xs : List X) → list_any test xs ≡ false

@@ -7,7 +7,7 @@ use Rattle.script_journal.specs.declared.event.Event.{Event}
 use Rattle.script_storm.specs.Counted.{is_frame}
 use Rattle.law_run.specs.Bench.{Bench}
 use Rattle.script_frames.specs.Frames.{MakesFrames, FillsWithFrames, frames_meaning, new_slots, sent_in}
-use Rattle.law_run.specs.steps.WorldLaws.{bench_laws}
+use Rattle.law_run.proofs.WorldLaws.{bench_laws}
 
 one_list : (old : Bench) (octets : List ℕ) (frames other : List SentFrame) (new next : Bench) → MakesFrames old octets frames new → MakesFrames old octets other next
     → (frames ≡ other) × (new ≡ next)

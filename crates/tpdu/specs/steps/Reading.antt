@@ -3,7 +3,7 @@ use Rattle.std.specs.Prelude.{◌≡◌, ◌==◌, ◌&&◌, ◌||◌, not, ℕ,
 use Rattle.osi_base.specs.Fletcher.{is_sealed}
 use Rattle.pdu_parts.specs.FirstFault.{first_failing}
 use Rattle.pdu_parts.specs.Parameter.{Parameter, front_parameter, parameters_in, left_in}
-use Rattle.pdu_parts.specs.steps.Reading.{◌>>=◌, unless}
+use Rattle.pdu_parts.proofs.Readings.{◌>>=◌, unless}
 use Rattle.tpdu.specs.declared.fault.TpduCause.{TpduCause}
 use Rattle.tpdu.specs.declared.fault.TpduCause.TheVariants.{Short, Length, Code, Fixed, Class, Param, Checksum, Body}
 use Rattle.tpdu.specs.declared.fault.TpduFault.{TpduFault}

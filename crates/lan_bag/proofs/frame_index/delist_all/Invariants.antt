@@ -1,7 +1,7 @@
 use Rattle.std.proofs.Common.{map}
 use Rattle.std.specs.BTreeSet.{contains}
 use Rattle.std.specs.Ordering.{nat_cmp}
-use Rattle.lan_bag.specs.Frames.{kept_at}
+use Rattle.lan_step.specs.Frames.{kept_at}
 use Rattle.lan_bag.specs.steps.Index.{AreIndexed}
 use Rattle.lan_bag.proofs.frame_index.delist_all.Given as goal
 

@@ -1,6 +1,6 @@
 use Rattle.std.proofs.Common.{◌<◌, ◌∙◌, refl, ap, set, length, Option, arith}
 use Rattle.std.proofs.lemmas.Result.{on_ok_weaker}
-use Rattle.lan_bag.specs.Frames.{Frame}
+use Rattle.lan_step.specs.Frames.{Frame}
 use Rattle.lan_bag.specs.steps.Store.{marked_in}
 use Rattle.lan_bag.proofs.Stored.{slot_marked}
 use Rattle.lan_bag.proofs.frame_store.mark_slot.Goals as goal

@@ -1,5 +1,5 @@
 use Rattle.std.proofs.Common.{◌≤◌, length, subst, option_copied, Option, Some, None, ℕ, arith}
-use Rattle.lan_bag.specs.Frames.{Frame}
+use Rattle.lan_step.specs.Frames.{Frame}
 use Rattle.lan_bag.specs.steps.Openings.{IsLeastAt}
 use Rattle.lan_bag.proofs.Openings.{closed_more, fresh_here, fresh_nowhere}
 use Rattle.lan_bag.proofs.next_delivery.first_fresh.Goals as goal

@@ -1,7 +1,7 @@
 use Rattle.std.proofs.Common.{◌≡◌, subst, false}
 use Rattle.std.specs.List.{list_any}
 use Rattle.nsap.specs.declared.port.Port.{Port}
-use Rattle.lan_bag.specs.Receivers.{is_one_of}
+use Rattle.lan_step.specs.Receivers.{is_one_of}
 use Rattle.lan_bag.proofs.LanLists.{none_reached}
 use Rattle.lan_bag.proofs.Openings.{open_nowhere}
 use Rattle.lan_bag.proofs.next_delivery.first_system.Goals as goal

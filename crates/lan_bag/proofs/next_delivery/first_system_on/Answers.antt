@@ -1,7 +1,7 @@
 use Rattle.std.proofs.Common.{◌≡◌, List, Option, Some, ℕ, true, ap, sym, subst, ◌∙◌, ◌+◌, take, arith}
 use Rattle.nsap.specs.declared.port.Port.{Port}
-use Rattle.lan_bag.specs.declared.setup.PortRow.{PortRow}
-use Rattle.lan_bag.specs.Receivers.{is_one_of}
+use Rattle.lan_step.specs.declared.row.PortRow.{PortRow}
+use Rattle.lan_step.specs.Receivers.{is_one_of}
 use Rattle.lan_bag.specs.steps.Openings.{is_free_to, is_open_to, is_open_at}
 use Rattle.lan_bag.specs.steps.Setting.{rows_on}
 use Rattle.lan_bag.proofs.LanLists.{first_shut, least_on, open_free}

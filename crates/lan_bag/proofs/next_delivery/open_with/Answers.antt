@@ -1,5 +1,5 @@
 use Rattle.std.proofs.Common.{◌≡◌, ◌+◌, Bool, false, not, arith}
-use Rattle.lan_bag.specs.Frames.{frame_of}
+use Rattle.lan_step.specs.Frames.{frame_of}
 use Rattle.lan_bag.proofs.LanLists.{none_to}
 use Rattle.lan_bag.proofs.Openings.{fresh_last}
 use Rattle.lan_bag.proofs.next_delivery.open_with.Goals as goal

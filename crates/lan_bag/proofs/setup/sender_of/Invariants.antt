@@ -1,5 +1,5 @@
 use Rattle.std.proofs.Common.{◌≡◌, drop}
-use Rattle.lan_bag.specs.Rows.{sender_of}
+use Rattle.lan_step.specs.Rows.{sender_of}
 use Rattle.lan_bag.proofs.setup.sender_of.Given as goal
 
 abbrev pub invariant-loop-row : goal.invariant-loop-row

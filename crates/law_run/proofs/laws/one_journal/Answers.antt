@@ -1,5 +1,5 @@
 use Rattle.law_run.specs.World.{first_world}
-use Rattle.law_run.specs.steps.WorldLaws.{one_run}
+use Rattle.law_run.proofs.WorldLaws.{one_run}
 use Rattle.law_run.proofs.laws.one_journal.Goals as goal
 
 pub returns : goal.returns

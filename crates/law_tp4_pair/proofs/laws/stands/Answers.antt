@@ -1,4 +1,4 @@
-use Rattle.law_tp4_pair.specs.steps.Standing.{Left}
+use Rattle.law_tp4_pair.specs.Standing.{Left}
 use Rattle.law_tp4_pair.proofs.Pairs.{stands_on}
 use Rattle.law_tp4_pair.proofs.Resting.{accepts_stands, pair_rests}
 use Rattle.law_tp4_pair.proofs.laws.stands.Goals as goal

@@ -1,7 +1,7 @@
 use Rattle.std.proofs.Common.{ℕ, ◌<◌, Bool, true, false, [], ◌∷◌, refl, arith}
 use Rattle.std.proofs.lemmas.List.Elements.{All-from_recursion}
-use Rattle.lan_bag.specs.declared.setup.PortRow.{PortRow}
-use Rattle.lan_bag.specs.Rows.{IsLan, AreApart, IsSetUp}
+use Rattle.lan_step.specs.declared.row.PortRow.{PortRow}
+use Rattle.lan_step.specs.Rows.{IsLan, AreApart, IsSetUp}
 use Rattle.test_network.proofs.lans.bag.Goals as goal
 
 abbrev at : ℕ → Bool → ℕ → ℕ → PortRow

@@ -1,8 +1,8 @@
 use Rattle.std.proofs.Common.{◌≡◌, ◌∙◌, ap, refl, subst, sym}
 use Rattle.std.specs.Prelude.{option_copied}
 use Rattle.osi_base.specs.declared.unit.Picked.TheVariants.{Taken as WasPicked}
-use Rattle.lan_bag.specs.Bag.{Bag, picked_in}
-use Rattle.lan_bag.specs.Frames.{marked_at}
+use Rattle.lan_step.specs.Bag.{Bag, picked_in}
+use Rattle.lan_step.specs.Frames.{marked_at}
 use Rattle.std.specs.BTreeSet.{contains}
 use Rattle.std.specs.Ordering.{nat_cmp}
 use Rattle.lan_bag.proofs.Indices.{indexed_marked, indexed_same}

@@ -1,6 +1,6 @@
 use Rattle.std.proofs.Common.{subst}
 use Rattle.osi_base.specs.Link.{IsLeastFresh}
-use Rattle.lan_bag.specs.Bag.{Bag, link_of}
+use Rattle.lan_step.specs.Bag.{Bag, link_of}
 use Rattle.lan_bag.proofs.Openings.{pair_fresh}
 use Rattle.lan_bag.proofs.bag.LanBag.fresh_pair.Goals as goal
 

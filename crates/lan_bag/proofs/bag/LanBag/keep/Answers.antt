@@ -1,10 +1,10 @@
 use Rattle.std.proofs.Common.{◌≡◌, ◌∙◌, ℕ, ◌+◌, ◌<◌, ◌++◌, ap, ◌∷◌, [], List, length, length-append, Option, Some, refl, sym, subst}
 use Rattle.osi_base.specs.declared.unit.Offered.TheVariants.{Taken as WasTaken}
-use Rattle.lan_bag.specs.Frames.{Frame}
-use Rattle.lan_bag.specs.Offers.{offered}
+use Rattle.lan_step.specs.Frames.{Frame}
+use Rattle.lan_step.specs.Offers.{offered}
 use Rattle.lan_bag.specs.steps.Openings.{IsFreshAt}
 use Rattle.lan_bag.specs.steps.Wheel.{listed}
-use Rattle.lan_bag.specs.Bag.{Bag}
+use Rattle.lan_step.specs.Bag.{Bag}
 use Rattle.std.specs.BTreeSet.{contains}
 use Rattle.std.specs.Ordering.{nat_cmp}
 use Rattle.lan_bag.proofs.Indices.{indexed_below, indexed_pushed, indexed_same}

@@ -1,6 +1,6 @@
 use Rattle.std.proofs.Common.{◌+◌, ◌∙◌, map, List, Option, slice_get, subst, sym}
 use Rattle.std.specs.Prelude.{IsSome}
-use Rattle.lan_bag.specs.Frames.{Frame, kept, kept_at}
+use Rattle.lan_step.specs.Frames.{Frame, kept, kept_at}
 use Rattle.lan_bag.specs.steps.Wheel.{list_at, turned}
 use Rattle.std.specs.BTreeSet.{contains}
 use Rattle.std.specs.Ordering.{nat_cmp}

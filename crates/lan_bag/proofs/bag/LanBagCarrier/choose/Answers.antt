@@ -1,6 +1,6 @@
 use Rattle.std.proofs.lemmas.Result.{IfOk-weaker}
 use Rattle.osi_base.specs.Calls.{Choose}
-use Rattle.lan_bag.specs.steps.Keeping.{bag_keeps}
+use Rattle.lan_step.proofs.Keeping.{bag_keeps}
 use Rattle.lan_bag.proofs.bag.LanBagCarrier.choose.Goals as goal
 
 pub returns-clause-link : goal.returns-clause-link

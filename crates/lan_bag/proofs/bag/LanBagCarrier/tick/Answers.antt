@@ -1,5 +1,5 @@
 use Rattle.osi_base.specs.Calls.{Tick}
-use Rattle.lan_bag.specs.steps.Keeping.{bag_keeps}
+use Rattle.lan_step.proofs.Keeping.{bag_keeps}
 use Rattle.lan_bag.proofs.bag.LanBagCarrier.tick.Goals as goal
 
 pub returns-clause-link : goal.returns-clause-link

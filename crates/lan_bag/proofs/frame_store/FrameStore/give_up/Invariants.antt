@@ -1,5 +1,5 @@
 use Rattle.std.proofs.Common.{◌≡◌, drop, map}
-use Rattle.lan_bag.specs.Frames.{kept_at}
+use Rattle.lan_step.specs.Frames.{kept_at}
 use Rattle.lan_bag.specs.steps.Wheel.{AreLateAmong}
 use Rattle.lan_bag.proofs.frame_store.FrameStore.give_up.Given as goal
 

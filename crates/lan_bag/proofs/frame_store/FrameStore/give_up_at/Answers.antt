@@ -1,5 +1,5 @@
 use Rattle.std.proofs.Common.{◌∙◌, ◌++◌, ap, sym, arith, replicate, List, Option, None}
-use Rattle.lan_bag.specs.Frames.{Frame}
+use Rattle.lan_step.specs.Frames.{Frame}
 use Rattle.lan_bag.specs.steps.Wheel.{given_up_at}
 use Rattle.lan_bag.proofs.Stored.{place_given_up, gone_given_up}
 use Rattle.lan_bag.proofs.frame_store.FrameStore.give_up_at.Goals as goal

@@ -1,5 +1,5 @@
 use Rattle.std.proofs.Common.{◌<◌, ◌-◌, ◌∙◌, ◌++◌, ap, sym, subst, replicate, List, Option, None, arith}
-use Rattle.lan_bag.specs.Frames.{Frame, marked_at}
+use Rattle.lan_step.specs.Frames.{Frame, marked_at}
 use Rattle.lan_bag.specs.steps.Store.{IsStored}
 use Rattle.lan_bag.proofs.Stored.{slot_stored, number_marked}
 use Rattle.lan_bag.proofs.frame_store.FrameStore.mark.Goals as goal

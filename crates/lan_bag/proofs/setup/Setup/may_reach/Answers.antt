@@ -1,6 +1,6 @@
 use Rattle.std.proofs.Common.{◌≡◌, ◌<◌, ◌∙◌, ap, sym, arith, get_or, length}
 use Rattle.std.specs.List.{list_any}
-use Rattle.lan_bag.specs.Receivers.{is_one_of}
+use Rattle.lan_step.specs.Receivers.{is_one_of}
 use Rattle.lan_bag.specs.steps.Setting.{Setting}
 use Rattle.lan_bag.proofs.LanLists.{none_named, rows_listed}
 use Rattle.lan_bag.proofs.setup.Setup.may_reach.Goals as goal

@@ -1,5 +1,5 @@
 use Rattle.std.proofs.Common.{◌≡◌, ◌<◌, ◌∙◌, ap, arith, get_or, length, List}
-use Rattle.lan_bag.specs.declared.setup.PortRow.{PortRow}
+use Rattle.lan_step.specs.declared.row.PortRow.{PortRow}
 use Rattle.lan_bag.specs.steps.Setting.{Setting, rows_on}
 use Rattle.lan_bag.proofs.LanLists.{rows_listed}
 use Rattle.lan_bag.proofs.setup.Setup.rows_on.Goals as goal

@@ -1,5 +1,5 @@
 use Rattle.std.proofs.Common.{List, ◌∙◌, ap}
-use Rattle.lan_bag.specs.declared.setup.PortRow.{PortRow}
+use Rattle.lan_step.specs.declared.row.PortRow.{PortRow}
 use Rattle.script_setup.specs.Inactive.{inactive_from}
 use Rattle.script_setup.specs.SetUp.{System, SetUp}
 use Rattle.script_setup.proofs.Served.{made_served}

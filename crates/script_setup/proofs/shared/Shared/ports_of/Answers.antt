@@ -1,7 +1,7 @@
 use Rattle.std.proofs.Common.{◌≡◌, ◌∙◌, ◌+◌, ◌++◌, ◌∷◌, [], List, take, ap, sym, subst}
 use Rattle.std.proofs.lemmas.List.{append-nil, take_more}
 use Rattle.nsap.specs.declared.port.Port.{Port}
-use Rattle.lan_bag.specs.declared.setup.PortRow.{PortRow}
+use Rattle.lan_step.specs.declared.row.PortRow.{PortRow}
 use Rattle.script_setup.specs.SetUp.{SetUp}
 use Rattle.script_setup.proofs.Adding.{ports_next}
 use Rattle.script_setup.proofs.Ports.{own_is, own_none}

@@ -4,7 +4,7 @@ use Rattle.tpdu.specs.Values.{seen}
 use Rattle.tp4_entity.specs.Dues.{AreFrom}
 use Rattle.tp4_entity.specs.Entity.{Entity}
 use Rattle.tp4_entity.specs.Unit.{extended_of}
-use Rattle.tp4_entity.specs.steps.Heard.{Heard}
+use Rattle.tp4_entity.proofs.Heard.{Heard}
 use Rattle.tp4_entity.specs.steps.Places.{Lasts}
 use Rattle.tpdu.proofs.Allowed.{first_is_allowed}
 use Rattle.tp4_entity.proofs.Dues.{lasts_then}

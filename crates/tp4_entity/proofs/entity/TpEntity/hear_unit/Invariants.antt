@@ -1,5 +1,5 @@
 use Rattle.std.proofs.Common.{length}
-use Rattle.tp4_entity.specs.steps.Heard.{Heard}
+use Rattle.tp4_entity.proofs.Heard.{Heard}
 use Rattle.tp4_entity.specs.steps.Places.{Lasts}
 use Rattle.tp4_entity.proofs.entity.TpEntity.hear_unit.Given as goal
 

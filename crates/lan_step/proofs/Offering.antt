@@ -10,10 +10,10 @@ use Rattle.osi_base.specs.declared.unit.Offered.TheVariants.{Taken as WasTaken, 
 use Rattle.osi_base.specs.Link.{IsNote}
 use Rattle.osi_base.specs.Calls.{StillTakes, TookAlso, no_pair, GivesPicks, Offers}
 use Rattle.nsap.specs.declared.port.Port.{Port}
-use Rattle.lan_bag.specs.Rows.{sender_of}
-use Rattle.lan_bag.specs.Frames.{Frame, kept, is_taken}
-use Rattle.lan_bag.specs.Bag.{Bag, link_of, entry_of, took_by, picked_in, after_offer, frame_note}
-use Rattle.lan_bag.specs.steps.Places.{takes_some, push_cases, push_before, push_last, takes_in, takes_at, Floats, floats, in_floating}
+use Rattle.lan_step.specs.Rows.{sender_of}
+use Rattle.lan_step.specs.Frames.{Frame, kept, is_taken}
+use Rattle.lan_step.specs.Bag.{Bag, link_of, entry_of, took_by, picked_in, after_offer, frame_note}
+use Rattle.lan_step.proofs.Places.{takes_some, push_cases, push_before, push_last, takes_in, takes_at, Floats, floats, in_floating}
 
 offer_grows : (frames : List (Option Frame)) (frame : Frame) (entry : ℕ × CarriedUnit Port) → Contains (flat_map entry_of (frames ++ Some frame ∷ [])) entry → Contains (flat_map entry_of frames) entry ⊎ (entry ≡ (frame.tick, frame.unit))
 offer_grows frames frame entry h = grows_at frames frame entry (floats (frames ++ Some frame ∷ []) entry h)

@@ -16,13 +16,13 @@ use Rattle.osi_base.specs.declared.unit.Injected.TheVariants.{Taken as WasInject
 use Rattle.osi_base.specs.Link.{IsAfloat, IsNote, AreStrays}
 use Rattle.osi_base.specs.Calls.{Injects}
 use Rattle.nsap.specs.declared.port.Port.{Port}
-use Rattle.lan_bag.specs.declared.setup.Lan.{Lan}
-use Rattle.lan_bag.specs.Rows.{bound_on, same_port, same_snpa}
-use Rattle.lan_bag.specs.Frames.{Frame, kept, is_live, is_of, carries_live, strays_of}
-use Rattle.lan_bag.specs.Reading.{ups_of}
-use Rattle.lan_bag.specs.Bag.{Bag, link_of, after_inject}
-use Rattle.lan_bag.specs.steps.Choosing.{adds_nothing}
-use Rattle.lan_bag.specs.steps.Places.{floats, in_floating}
+use Rattle.lan_step.specs.declared.row.Lan.{Lan}
+use Rattle.lan_step.specs.Rows.{bound_on, same_port, same_snpa}
+use Rattle.lan_step.specs.Frames.{Frame, kept, is_live, is_of, carries_live, strays_of}
+use Rattle.lan_step.specs.Reading.{ups_of}
+use Rattle.lan_step.specs.Bag.{Bag, link_of, after_inject}
+use Rattle.lan_step.proofs.Choosing.{adds_nothing}
+use Rattle.lan_step.proofs.Places.{floats, in_floating}
 
 pub port_is : (p q : Port) → same_port p q ≡ true → p ≡ q
 port_is p q h =

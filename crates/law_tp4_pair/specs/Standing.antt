@@ -13,9 +13,9 @@ use Rattle.tp4_conn.specs.declared.states.InCrWait.{InCrWait}
 use Rattle.tp4_conn.specs.declared.states.StateData.TheVariants.{CrWait, AkWait, Opened}
 use Rattle.tp4_conn.specs.Agreeing.{confirm, halves_of}
 use Rattle.tp4_conn.specs.End.{IsSized}
-use Rattle.law_tp4_pair.specs.steps.Carrying.{Carries, pieces_in, units_in}
-use Rattle.law_tp4_pair.specs.steps.Waiting.{AreData, dts_in, eds_in, aks_in, eas_in}
-use Rattle.law_tp4_pair.specs.steps.Flowing.{IsCalm}
+use Rattle.law_tp4_pair.specs.Carrying.{Carries, pieces_in, units_in}
+use Rattle.law_tp4_pair.specs.Waiting.{AreData, dts_in, eds_in, aks_in, eas_in}
+use Rattle.law_tp4_pair.specs.Flowing.{IsCalm}
 use Rattle.law_tp4_pair.specs.Pair.{Account, IsNew, Pair, back_units, forth_units}
 pub use Rattle.law_tp4_pair.specs.Left.{HasLeft}
 

@@ -14,13 +14,13 @@ use Rattle.osi_base.specs.declared.unit.Injected.TheVariants.{Taken as WasInject
 use Rattle.osi_base.specs.Link.{Link}
 use Rattle.osi_base.specs.Calls.{Call, Offer, Choose, Inject, NextUp, Tick, after_first}
 use Rattle.nsap.specs.declared.port.Port.{Port}
-use Rattle.lan_bag.specs.declared.setup.Lan.{Lan}
-use Rattle.lan_bag.specs.declared.setup.PortRow.{PortRow}
-use Rattle.lan_bag.specs.Rows.{bound_on, room_on, is_on, sender_of}
-use Rattle.lan_bag.specs.Receivers.{goes_to}
-use Rattle.lan_bag.specs.Frames.{Frame, frame_of, has_taken, marked_at, is_taken, picked, kept_at, strays_of}
-use Rattle.lan_bag.specs.Offers.{offered}
-use Rattle.lan_bag.specs.Reading.{ups_of}
+use Rattle.lan_step.specs.declared.row.Lan.{Lan}
+use Rattle.lan_step.specs.declared.row.PortRow.{PortRow}
+use Rattle.lan_step.specs.Rows.{bound_on, room_on, is_on, sender_of}
+use Rattle.lan_step.specs.Receivers.{goes_to}
+use Rattle.lan_step.specs.Frames.{Frame, frame_of, has_taken, marked_at, is_taken, picked, kept_at, strays_of}
+use Rattle.lan_step.specs.Offers.{offered}
+use Rattle.lan_step.specs.Reading.{ups_of}
 
 -- the LANs: the frame of number n stands at place n - 1, and nothing once it is late
 pub record Bag : Type 0 where

@@ -5,10 +5,10 @@ use Rattle.osi_base.specs.declared.unit.Offered.{Offered}
 use Rattle.osi_base.specs.declared.unit.Offered.TheVariants.{Taken as WasTaken, Dropped}
 use Rattle.osi_base.specs.declared.unit.DropCause.TheVariants.{TooLong, NoRoute, Full}
 use Rattle.nsap.specs.declared.port.Port.{Port}
-use Rattle.lan_bag.specs.declared.setup.Lan.{Lan}
-use Rattle.lan_bag.specs.declared.setup.PortRow.{PortRow}
-use Rattle.lan_bag.specs.Rows.{room_on, sender_of}
-use Rattle.lan_bag.specs.Frames.{Frame}
+use Rattle.lan_step.specs.declared.row.Lan.{Lan}
+use Rattle.lan_step.specs.declared.row.PortRow.{PortRow}
+use Rattle.lan_step.specs.Rows.{room_on, sender_of}
+use Rattle.lan_step.specs.Frames.{Frame}
 
 -- how many frames there are that are not late
 abbrev pub live_count : List (Option Frame) → ℕ

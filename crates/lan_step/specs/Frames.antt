@@ -9,10 +9,10 @@ use Rattle.osi_base.specs.declared.unit.Picked.{Picked}
 use Rattle.osi_base.specs.declared.unit.Picked.TheVariants.{Taken as WasPicked, NoSuch, Late, NotThere, NotOurs}
 use Rattle.nsap.specs.declared.port.Port.{Port}
 use Rattle.lan_frame.specs.Frame.{whole_frame}
-use Rattle.lan_bag.specs.declared.setup.Lan.{Lan}
-use Rattle.lan_bag.specs.declared.setup.PortRow.{PortRow}
-use Rattle.lan_bag.specs.Rows.{bound_on, same_port, is_on, has_sent}
-use Rattle.lan_bag.specs.Receivers.{goes_to}
+use Rattle.lan_step.specs.declared.row.Lan.{Lan}
+use Rattle.lan_step.specs.declared.row.PortRow.{PortRow}
+use Rattle.lan_step.specs.Rows.{bound_on, same_port, is_on, has_sent}
+use Rattle.lan_step.specs.Receivers.{goes_to}
 
 -- a frame: when it was sent, what it carries, and the systems that took it
 pub record Frame : Type 0 where

@@ -8,10 +8,10 @@ use Rattle.std.proofs.lemmas.List.Elements.{Contains-append_right}
 use Rattle.osi_base.specs.declared.unit.Unit.{Unit as CarriedUnit}
 use Rattle.osi_base.specs.declared.unit.Picked.TheVariants.{NoSuch}
 use Rattle.nsap.specs.declared.port.Port.{Port}
-use Rattle.lan_bag.specs.declared.setup.Lan.{Lan}
-use Rattle.lan_bag.specs.declared.setup.PortRow.{PortRow}
-use Rattle.lan_bag.specs.Frames.{Frame, kept, has_taken, marked, is_live, is_taken, picked, picked_late, kept_at}
-use Rattle.lan_bag.specs.Bag.{entry_of}
+use Rattle.lan_step.specs.declared.row.Lan.{Lan}
+use Rattle.lan_step.specs.declared.row.PortRow.{PortRow}
+use Rattle.lan_step.specs.Frames.{Frame, kept, has_taken, marked, is_live, is_taken, picked, picked_late, kept_at}
+use Rattle.lan_step.specs.Bag.{entry_of}
 
 -- a place behind one more element is as before, or is that of the new one
 pub push_cases : {X : Type 0} (xs : List X) (y : X) (k : ℕ) → (slice_get (xs ++ y ∷ []) k ≡ slice_get xs k) ⊎ ((slice_get xs k ≡ None) × (slice_get (xs ++ y ∷ []) k ≡ Some y))

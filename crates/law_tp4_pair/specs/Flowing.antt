@@ -7,7 +7,7 @@ use Rattle.tp4_flow.specs.ReceivingHalf.{Half}
 use Rattle.tp4_sending.specs.SendingHalf.{FlowSender, Sendings, block_in}
 use Rattle.tp4_sending.specs.Settled.{IsSettled}
 use Rattle.tp4_sending.specs.declared.tries.Tries.{Tries}
-use Rattle.law_tp4_pair.specs.steps.Waiting.{View, dts_in, eds_in, wires, views}
+use Rattle.law_tp4_pair.specs.Waiting.{View, dts_in, eds_in, wires, views}
 
 -- an ED is outstanding only where there is a unit for it
 abbrev pub HasUnit : List (List ℕ) → Option Tries → Type 0

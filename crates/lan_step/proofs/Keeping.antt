@@ -6,12 +6,12 @@ use Rattle.osi_base.specs.declared.unit.Up.{Up}
 use Rattle.osi_base.specs.Link.{IsGiven}
 use Rattle.osi_base.specs.Calls.{Call, Offer, Choose, Inject, NextUp, Tick, TakesUp, Ticks, Keeps, after_first}
 use Rattle.nsap.specs.declared.port.Port.{Port}
-use Rattle.lan_bag.specs.Bag.{Bag, BagStep, link_of}
-use Rattle.lan_bag.specs.steps.Offering.{offers_ok}
-use Rattle.lan_bag.specs.steps.Choosing.{chooses_ok}
-use Rattle.lan_bag.specs.steps.Injecting.{injects_ok}
-use Rattle.lan_bag.specs.steps.Ticking.{ticks}
-use Rattle.lan_bag.specs.steps.Places.{takes_some, takes_at}
+use Rattle.lan_step.specs.Bag.{Bag, BagStep, link_of}
+use Rattle.lan_step.proofs.Offering.{offers_ok}
+use Rattle.lan_step.proofs.Choosing.{chooses_ok}
+use Rattle.lan_step.proofs.Injecting.{injects_ok}
+use Rattle.lan_step.proofs.Ticking.{ticks}
+use Rattle.lan_step.proofs.Places.{takes_some, takes_at}
 
 -- the picks that the LANs gave are the numbers of their frames
 pub bag_given : (bag : Bag) → IsGiven (link_of bag)

@@ -1,9 +1,9 @@
 //! Which systems of a LAN a frame is for: those with its SNPA, and those of its group (IEEE 802.3; ISO 9542, subnetwork addresses).
 
 ghost use Rattle.std.specs.Prelude.{◌≡◌};
-ghost use Rattle.lan_bag.specs.Receivers.{goes_to, is_named_by, is_one_of, group_of_kind};
+ghost use Rattle.lan_step.specs.Receivers.{goes_to, is_named_by, is_one_of, group_of_kind};
 
-use crate::setup::PortRow;
+use crate::row::PortRow;
 use nsap::{ALL_END_SYSTEMS, ALL_INTERMEDIATE_SYSTEMS, Port, Snpa};
 
 impl PortRow {

@@ -8,11 +8,11 @@ use Rattle.osi_base.specs.declared.unit.Unit.{Unit as CarriedUnit}
 use Rattle.osi_base.specs.Link.{IsNote}
 use Rattle.osi_base.specs.Calls.{TookAlso, no_pair, GivesPicks, Ticks}
 use Rattle.nsap.specs.declared.port.Port.{Port}
-use Rattle.lan_bag.specs.declared.setup.Lan.{Lan}
-use Rattle.lan_bag.specs.Rows.{bound_on}
-use Rattle.lan_bag.specs.Frames.{Frame, kept, is_live, is_taken, kept_at}
-use Rattle.lan_bag.specs.Bag.{Bag, link_of, entry_of, took_by, picked_in}
-use Rattle.lan_bag.specs.steps.Places.{entry_stands, kept_places, takes_in, takes_at, takes_live, takes_sooner, kept_was, live_kept, Floats, floats}
+use Rattle.lan_step.specs.declared.row.Lan.{Lan}
+use Rattle.lan_step.specs.Rows.{bound_on}
+use Rattle.lan_step.specs.Frames.{Frame, kept, is_live, is_taken, kept_at}
+use Rattle.lan_step.specs.Bag.{Bag, link_of, entry_of, took_by, picked_in}
+use Rattle.lan_step.proofs.Places.{entry_stands, kept_places, takes_in, takes_at, takes_live, takes_sooner, kept_was, live_kept, Floats, floats}
 
 abbrev pub ticked : Bag → Bag
 ticked old = record old { clock = old.clock + 1; frames = map (kept_at (old.clock + 1) old.lans) old.frames }

@@ -13,13 +13,13 @@ use Rattle.osi_base.specs.declared.unit.Picked.TheVariants.{Taken as WasPicked, 
 use Rattle.osi_base.specs.Link.{IsAfloat, IsNote, IsLawful}
 use Rattle.osi_base.specs.Calls.{StillTakes, TookAlso, pair_of, Adds, GivesPicks, Chooses}
 use Rattle.nsap.specs.declared.port.Port.{Port}
-use Rattle.lan_bag.specs.declared.setup.Lan.{Lan}
-use Rattle.lan_bag.specs.declared.setup.PortRow.{PortRow}
-use Rattle.lan_bag.specs.Rows.{bound_on}
-use Rattle.lan_bag.specs.Receivers.{goes_to}
-use Rattle.lan_bag.specs.Frames.{Frame, kept, frame_of, marked, marked_frame, is_taken}
-use Rattle.lan_bag.specs.Bag.{Bag, link_of, entry_of, took_by, picked_in, after_pick, after_choose}
-use Rattle.lan_bag.specs.steps.Places.{takes_some, entry_stands, set_same, set_other, takes_in, takes_at, takes_live, marked_by, Floats, floats, in_floating}
+use Rattle.lan_step.specs.declared.row.Lan.{Lan}
+use Rattle.lan_step.specs.declared.row.PortRow.{PortRow}
+use Rattle.lan_step.specs.Rows.{bound_on}
+use Rattle.lan_step.specs.Receivers.{goes_to}
+use Rattle.lan_step.specs.Frames.{Frame, kept, frame_of, marked, marked_frame, is_taken}
+use Rattle.lan_step.specs.Bag.{Bag, link_of, entry_of, took_by, picked_in, after_pick, after_choose}
+use Rattle.lan_step.proofs.Places.{takes_some, entry_stands, set_same, set_other, takes_in, takes_at, takes_live, marked_by, Floats, floats, in_floating}
 
 taken_is : (answer : Picked) → is_taken answer ≡ true → answer ≡ WasPicked
 taken_is WasPicked h = refl

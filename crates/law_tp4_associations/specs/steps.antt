@@ -1,2 +1,0 @@
--- What only carries the proofs: all laws of associations together.
-pub mod Together

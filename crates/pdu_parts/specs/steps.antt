@@ -1,2 +1,0 @@
--- What only carries proofs: reading from left to right.
-pub mod Reading
