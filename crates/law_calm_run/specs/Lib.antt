@@ -1,2 +1,5 @@
+pub mod Confirms
+pub mod Pairs
 pub mod Run
 pub mod Service
+pub mod steps

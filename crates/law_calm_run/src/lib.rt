@@ -4,4 +4,6 @@
 
 mod laws;
 
-pub use laws::indicates;
+pub use laws::{
+    confirms, confirms_on_wire, has_pairs, has_pairs_on_wire, indicates, indicates_on_wire,
+};

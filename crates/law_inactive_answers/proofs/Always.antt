@@ -25,11 +25,11 @@ use Rattle.inactive_step.specs.Step.{InactiveArrives, InactiveStep, Long, NoWay,
 use Rattle.inactive_step.proofs.Found.{found_of}
 use Rattle.inactive_step.proofs.Kept.{begins_soundly, stays_sound}
 use Rattle.inactive_step.proofs.Seen.{ends_of}
-use Rattle.law_clnp_answers.specs.Serving.{ComesInOctets, WaitsInOctets}
-use Rattle.law_clnp_answers.specs.Standing.{FitsBag, FitsUp, IsFrame, is_nsap}
-use Rattle.law_clnp_answers.proofs.answered.Carrying.{chosen, gathered, injected, nsap_passes, offers_one, passed}
-use Rattle.law_clnp_answers.proofs.answered.Least.{least_pair}
-use Rattle.law_clnp_answers.proofs.answered.Moving.{waits_both}
+use Rattle.law_clnp_net.specs.Serving.{ComesInOctets, WaitsInOctets}
+use Rattle.law_clnp_net.specs.Standing.{FitsBag, FitsUp, IsFrame, is_nsap}
+use Rattle.law_clnp_net.proofs.answered.Carrying.{chosen, gathered, injected, nsap_passes, offers_one, passed}
+use Rattle.law_clnp_net.proofs.answered.Least.{least_pair}
+use Rattle.law_clnp_net.proofs.answered.Moving.{waits_both}
 use Rattle.law_inactive_answers.specs.Laws.{BeginsServing, InactiveServes}
 use Rattle.law_inactive_answers.specs.Standing.{FitsRow, Stands}
 use Rattle.law_inactive_answers.proofs.Once.{one_net_answer}

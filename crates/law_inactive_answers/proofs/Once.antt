@@ -20,8 +20,8 @@ use Rattle.inactive_step.specs.Network.{Inactive}
 use Rattle.inactive_step.specs.Rows.{longest}
 use Rattle.inactive_step.specs.Step.{Brings, InactiveArrives, InactiveOffers, InactiveStep, InactiveTakesUp, InactiveTicks, Long, NoWay, Sent, counted, floated, plain_wish, strays_in}
 use Rattle.law_inactive_answers.specs.Laws.{OneNetAnswer}
-use Rattle.law_clnp_answers.proofs.Bags.{one_bag_answer}
-use Rattle.law_clnp_answers.proofs.Steps.{one_front, same_choice, same_chosen, same_injected, same_injection, same_offer}
+use Rattle.law_clnp_net.proofs.Bags.{one_bag_answer}
+use Rattle.law_clnp_net.proofs.Steps.{one_front, same_choice, same_chosen, same_injected, same_injection, same_offer}
 
 no_way : {A : Type 0} (found : Option A) (one : A) → found ≡ None → found ≡ Some one → ⊥
 no_way found one a b = absurd cc

@@ -17,8 +17,8 @@ use Rattle.inactive_step.specs.Way.{way_from}
 use Rattle.inactive_step.specs.Network.{Inactive, inactive_link, new_inactive}
 use Rattle.inactive_step.specs.Rows.{AreServed}
 use Rattle.inactive_step.specs.Step.{InactiveStep}
-use Rattle.law_clnp_answers.specs.Serving.{Serves}
-use Rattle.law_clnp_answers.specs.Standing.{is_nsap}
+use Rattle.law_clnp_net.specs.Serving.{Serves}
+use Rattle.law_clnp_net.specs.Standing.{is_nsap}
 use Rattle.law_inactive_answers.specs.Standing.{FitsRow, Stands}
 use Rattle.law_inactive_answers.specs.Offering.{ArePorts, offered_on}
 

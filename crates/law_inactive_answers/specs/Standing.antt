@@ -5,8 +5,8 @@ use Rattle.lan_step.specs.Bag.{Bag, link_of}
 use Rattle.inactive_step.specs.declared.row.InactiveRow.{InactiveRow}
 use Rattle.inactive_step.specs.Network.{Inactive}
 use Rattle.inactive_step.specs.Sound.{IsSound}
-use Rattle.law_clnp_answers.specs.Serving.{WaitsInOctets}
-use Rattle.law_clnp_answers.specs.Standing.{FitsBag, IsNsap, IsSnpa}
+use Rattle.law_clnp_net.specs.Serving.{WaitsInOctets}
+use Rattle.law_clnp_net.specs.Standing.{FitsBag, IsNsap, IsSnpa}
 
 -- an end system with an address and an SNPA in octets
 pub record FitsRow (row : InactiveRow) : Type 0 where

@@ -7,14 +7,12 @@ use Rattle.tp4_number.specs.Number.{whole}
 use Rattle.law_tp4_pair.specs.Pair.{Pair}
 use Rattle.law_tp4_lawful.specs.Called.{AreHonestCalls}
 use Rattle.law_recovery_run.specs.Ordered.{IsReady}
-use Rattle.law_recovery_walk.specs.Following.{IsFollowed}
-use Rattle.law_recovery_ready.specs.Laws.{EndsHaveNumbers, OpenedAreFollowed, RunsAreCalls, RunsAreReady, RunsGoOn}
-use Rattle.law_recovery_ready.specs.Ready.{HasStarted, pair_at}
-use Rattle.law_recovery_service.specs.Service.{AreBack}
-use Rattle.law_recovery_followed.specs.Laws.{FollowedAreBack, FollowedArePairs}
-use Rattle.law_recovery_telling.specs.Laws.{WalkedTell}
-use Rattle.law_recovery_telling.specs.Outcome.{AreOpenStill, HaveComeTo}
-use Rattle.law_recovery.specs.Laws.{WalkedRecover}
+use Rattle.law_recovery_run.specs.Following.{IsFollowed}
+use Rattle.law_recovery_run.specs.Laws.{EndsHaveNumbers, OpenedAreFollowed, RunsAreCalls, RunsAreReady, RunsGoOn}
+use Rattle.law_recovery_run.specs.Ready.{HasStarted, pair_at}
+use Rattle.law_recovery_run.specs.Service.{AreBack}
+use Rattle.law_recovery.specs.Laws.{FollowedAreBack, FollowedArePairs, WalkedTell, WalkedRecover}
+use Rattle.law_recovery.specs.Outcome.{AreOpenStill, HaveComeTo}
 
 module _ {C : Type 0} (link : C → Link (List ℕ)) (steps : C → Call (List ℕ) → C → Type 0) (calls_of : RunsAreCalls link steps whole) (ready_of : RunsAreReady link steps) (goes_of : RunsGoOn link steps)
     (opened_of : OpenedAreFollowed link steps) (numbers_of : EndsHaveNumbers link steps) (pairs_of : FollowedArePairs link steps) (back_of : FollowedAreBack link steps) (tell_of : WalkedTell link steps) where

@@ -11,13 +11,13 @@ use Rattle.law_tp4_history.specs.Tracks.{IsNothing, Whole}
 use Rattle.law_tp4_lawful.proofs.ActsLines.{Flowing}
 use Rattle.law_tp4_lawful.proofs.CalledStarts.{followed_by, on_whole}
 use Rattle.law_tp4_lawful.proofs.MeetsOthers.{KnowsTaken}
-use Rattle.law_tp4_ended.proofs.Worlds.{IsFitWorld}
+use Rattle.law_tp4_associations.proofs.EndedWorlds.{IsFitWorld}
 use Rattle.law_recovery_run.specs.Ordered.{ReachedFrom}
 use Rattle.law_recovery_run.proofs.Aiming.{Going}
-use Rattle.law_recovery_walk.proofs.Fitting.{calls_fit}
-use Rattle.law_recovery_walk.proofs.Settling.{IsExplained}
-use Rattle.law_recovery_script.proofs.Starting.{runs_told}
-use Rattle.law_recovery_telling.specs.Walked.{AreWalked}
+use Rattle.law_recovery_run.proofs.Fitting.{calls_fit}
+use Rattle.law_recovery_run.proofs.Settling.{IsExplained}
+use Rattle.law_recovery.proofs.Starting.{runs_told}
+use Rattle.law_recovery.specs.Walked.{AreWalked}
 
 module _ {C : Type 0} (link : C → Link (List ℕ)) (steps : C → Call (List ℕ) → C → Type 0) (law : (old : C) (call : Call (List ℕ)) (new : C) → steps old call new → Keeps (link old) call (link new))
     (flowing : Flowing) (knows : KnowsTaken) (begun : (times : Times) (titles : List (List ℕ)) (w : Whole) → IsNothing w → Written times titles w []) (going : Going) where

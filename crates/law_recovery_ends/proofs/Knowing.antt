@@ -28,8 +28,8 @@ use Rattle.tp4_conn.specs.Matching.{wants_sum}
 use Rattle.tp4_conn.specs.Opened.{dt_as, hearing, is_expedited, opened_as, opened_tick, opened_tpdu}
 use Rattle.tp4_conn.specs.Table.{Called, Event, Ticked, Took, at as now_at, on_call, on_tick, on_tpdu, stepped}
 use Rattle.law_tp4_rows.proofs.RowsWithout.{HasNone, OpensBy, ak_wait_later, ak_wait_row, call_without, cr_wait_row, tick_without, tpdu_without, user_wait_call}
-use Rattle.law_tp4_credit.proofs.GivingRows.{knows_at}
-use Rattle.law_tp4_credit.specs.Giving.{EventGives, Gives, GivesCredit, KnowsCredit}
+use Rattle.law_tp4_rows.proofs.GivingRows.{knows_at}
+use Rattle.law_tp4_rows.specs.Giving.{EventGives, Gives, GivesCredit, KnowsCredit}
 use Rattle.law_recovery_pair.specs.Viewing.{IsWithin, KeepsView}
 use Rattle.law_recovery_pair.proofs.Viewing.{ak_keep, done_keep, open_keep, submit_keep, tick_keep, urge_keep}
 use Rattle.law_recovery_ends.specs.Knowing.{IsFreshView, RowKnows, StageKnows}

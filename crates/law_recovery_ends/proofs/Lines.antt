@@ -6,8 +6,8 @@ use Rattle.tp4_number.specs.Sender.{Sender}
 use Rattle.tp4_number.specs.Traffic.{Answer, ReadsRightly, Rules, Traffic}
 use Rattle.tp4_sending.specs.SendingHalf.{FlowSender, block_in}
 use Rattle.tp4_conn.specs.Table.{Event}
-use Rattle.law_tp4_recovery.specs.Speaking.{Began, Heard, Knows}
-use Rattle.law_tp4_recovery.specs.Views.{known, view_of}
+use Rattle.law_recovery_pair.specs.Speaking.{Began, Heard, Knows}
+use Rattle.law_recovery_pair.specs.Views.{known, view_of}
 use Rattle.law_recovery_pair.specs.Viewing.{KeepsView}
 use Rattle.law_recovery_ends.specs.Knowing.{HasHeard, IsFreshView}
 use Rattle.law_recovery_ends.specs.Lines.{AreIn, WasSaid}

@@ -3,9 +3,9 @@ use Rattle.std.proofs.Common.{◌≡◌, inl, inr, ◌≤◌, ℕ, ◌+◌, max,
 use Rattle.tp4_flow.specs.ReceivingHalf.{Half}
 use Rattle.tp4_number.specs.Traffic.{Traffic}
 use Rattle.tp4_sending.specs.SendingHalf.{FlowSender}
-use Rattle.law_tp4_recovery.specs.Recovering.{IsLevel, IsNotDue, Road}
-use Rattle.law_tp4_recovery.specs.Views.{View}
-use Rattle.law_tp4_recovery.proofs.Chains.{views_recover}
+use Rattle.law_recovery_pair.specs.Recovering.{IsLevel, IsNotDue, Road}
+use Rattle.law_recovery_pair.specs.Views.{View}
+use Rattle.law_recovery_pair.proofs.Chains.{views_recover}
 use Rattle.law_recovery_pair.specs.Riding.{Aside, road_of, rules_by}
 use Rattle.law_recovery_ends.specs.Resting.{AreUndue, IsNow, IsPast}
 use Rattle.law_recovery_ends.proofs.Due.{numbers_sent}

@@ -9,11 +9,11 @@ use Rattle.tp4_conn.specs.Living.{IsInTime}
 use Rattle.tp4_conn.specs.Table.{Event, due, stepped}
 use Rattle.law_recovery_ends.specs.Due.{AreTried, AreYoung, IsUndue}
 use Rattle.tp4_conn.specs.End.{End}
-use Rattle.law_tp4_credit.specs.Giving.{EventGives, Gives}
+use Rattle.law_tp4_rows.specs.Giving.{EventGives, Gives}
 use Rattle.law_recovery_ends.specs.Knowing.{StageKnows, RowKnows, HasHeard, IsFreshView}
 use Rattle.tp4_number.specs.Traffic.{ReadsRightly, Rules, Traffic}
 use Rattle.tp4_sending.specs.SendingHalf.{FlowSender, block_in}
-use Rattle.law_tp4_recovery.specs.Speaking.{Knows}
+use Rattle.law_recovery_pair.specs.Speaking.{Knows}
 use Rattle.law_recovery_pair.specs.Viewing.{KeepsView}
 use Rattle.law_recovery_ends.specs.Lines.{AreIn, WasSaid}
 use Rattle.tp4_flow.specs.ReceivingHalf.{Half}

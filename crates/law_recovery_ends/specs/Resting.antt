@@ -4,8 +4,8 @@ use Rattle.std.specs.Prelude.{◌≡◌, ◌⊎◌, ◌<◌, ℕ, ◌+◌, List,
 use Rattle.tp4_flow.specs.ReceivingHalf.{Half}
 use Rattle.tp4_number.specs.Traffic.{Answer, Event, IsFit, Leads, Rules, Tick, Traffic, after, start}
 use Rattle.tp4_sending.specs.SendingHalf.{FlowSender}
-use Rattle.law_tp4_recovery.specs.Recovering.{IsFitted}
-use Rattle.law_tp4_recovery.specs.Views.{AreViews}
+use Rattle.law_recovery_pair.specs.Recovering.{IsFitted}
+use Rattle.law_recovery_pair.specs.Views.{AreViews}
 use Rattle.law_recovery_pair.specs.Riding.{Aside, GoesOn, road_of, rules_by}
 use Rattle.law_recovery_ends.specs.Due.{AreTried, AreYoung}
 

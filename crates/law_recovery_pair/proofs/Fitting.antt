@@ -14,10 +14,10 @@ use Rattle.tp4_number.specs.Number.{ahead, whole, wire}
 use Rattle.tp4_number.specs.Receiver.{Receiver, after_dt, arrived_as, in_order, judged}
 use Rattle.tp4_number.specs.Window.{Held, Joined, is_held, placed}
 use Rattle.tp4_number.proofs.Past.{blank, in_order_there}
-use Rattle.law_tp4_recovery.specs.Recovering.{IsFitted}
-use Rattle.law_tp4_recovery.proofs.Free.{free_after}
-use Rattle.law_tp4_recovery.proofs.Holding.{slid_size, there_low}
-use Rattle.law_tp4_recovery.proofs.Rising.{gives}
+use Rattle.law_recovery_pair.specs.Recovering.{IsFitted}
+use Rattle.law_recovery_pair.proofs.Free.{free_after}
+use Rattle.law_recovery_pair.proofs.Holding.{slid_size, there_low}
+use Rattle.law_recovery_pair.proofs.Rising.{gives}
 use Rattle.law_recovery_pair.specs.Fitting.{Fits}
 
 most_there : (format : Format) (credit : ℕ) → credit ≤ 15 → credit ≤ most_of format

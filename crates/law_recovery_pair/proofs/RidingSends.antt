@@ -15,7 +15,7 @@ use Rattle.tp4_number.proofs.Past.{if_kept}
 use Rattle.tp4_sending.specs.SendingHalf.{FlowSender, Sendings, block_in, rule_allows, is_noted, one_urgent, sent_normal, has_next, normals, is_urgent, normals_where, new_sends, submitted, urged, acknowledged, is_taken, acknowledged_to, marked_all, resends, resends_urgent_as, due_numbers, life_of, ticked_as, ticked}
 use Rattle.tp4_sending.specs.Pieces.{due_from, end_of, is_due}
 use Rattle.tp4_sending.specs.declared.tries.Tries.{Tries}
-use Rattle.law_tp4_recovery.specs.Recovering.{Ak_arrives, Late_ak, Move, Moves, Resends, Road, Sends, moved}
+use Rattle.law_recovery_pair.specs.Recovering.{Ak_arrives, Late_ak, Move, Moves, Resends, Road, Sends, moved}
 use Rattle.law_recovery_pair.specs.Riding.{Aside, HearsOn, SendsOn, road_of, rules_by, sent_aside, sent_at}
 
 -- ---- moves one after another

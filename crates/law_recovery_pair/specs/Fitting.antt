@@ -2,7 +2,7 @@
 -- sequencing, explicit flow control).
 use Rattle.tp4_flow.specs.ReceivingHalf.{Half}
 use Rattle.tp4_number.specs.Formats.{most_of}
-use Rattle.law_tp4_recovery.specs.Recovering.{IsFitted}
+use Rattle.law_recovery_pair.specs.Recovering.{IsFitted}
 
 abbrev pub Fits : Half → Type 0
 Fits h = IsFitted (most_of h.rules.format) h.receiver

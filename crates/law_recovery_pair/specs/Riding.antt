@@ -6,7 +6,7 @@ use Rattle.tp4_flow.specs.declared.rules.FlowRules.{FlowRules}
 use Rattle.tp4_number.specs.Formats.{block_of}
 use Rattle.tp4_number.specs.Sender.{Sender}
 use Rattle.tp4_number.specs.Traffic.{Answer, Rules}
-use Rattle.law_tp4_recovery.specs.Recovering.{Move, Moves, Road}
+use Rattle.law_recovery_pair.specs.Recovering.{Move, Moves, Road}
 
 -- what of a road is in neither half
 pub record Aside : Type 0 where

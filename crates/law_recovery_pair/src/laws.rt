@@ -2,7 +2,7 @@
 //! control).
 
 ghost use Rattle.std.specs.Prelude.{ℕ};
-ghost use Rattle.law_recovery_pair.specs.Laws.{AkOn, AksTakeView, CallsKeepView, ClockOn, DtFits, DtOn, EmptyFits, FirstAkOn, GrantFits, GrantOn, LateAkOn, LateDtOn, SubmitsOn, TicksOn, UrgesOn};
+ghost use Rattle.law_recovery_pair.specs.Laws.{AkOn, AksTakeView, CallsKeepView, ClockOn, DtFits, DtOn, EmptyFits, FirstAkOn, GrantFits, GrantOn, LateAkOn, LateDtOn, SubmitsOn, TicksOn, UrgesOn, EventsRecover, EventsSpeak, KnowsNoNewer, NewerIsTaken, UrgentRecover, ViewsRecover, ViewsRise};
 
 /// What a sending half does, as it is called: it sends what may go, hears an AK, or sends again what is due.
 pub fn sends()
@@ -34,4 +34,26 @@ pub fn fits()
     ensures empty { EmptyFits }
     ensures dt { DtFits }
     ensures grant { GrantFits }
+{}
+
+/// After any events, whatever was lost, repeated, delayed or reordered, what a receiver says only rises, and a
+/// sender takes each AK afloat that is newer than what it knows.
+pub fn views()
+    ensures rise { ViewsRise }
+    ensures takes { NewerIsTaken }
+    ensures speaks { EventsSpeak }
+    ensures knows { KnowsNoNewer }
+{}
+
+/// Whatever was lost up to a tick: where all that was sent after it was handed over, AKs in order, none of it waits, no end
+/// is due, and as many ticks passed as the longer of T1 and W, sender and receiver know the same, and nothing is outstanding.
+pub fn recovers()
+    ensures events { EventsRecover }
+    ensures views { ViewsRecover }
+{}
+
+/// Whatever was lost up to a tick: where each ED and EA sent after it was handed over in order, none of them waits,
+/// none is due, and T1 ticks passed, no ED is outstanding, and the next one is the one expected.
+pub fn recovers_urgently()
+    ensures { UrgentRecover }
 {}

@@ -19,8 +19,8 @@ use Rattle.tp4_conn.specs.Proper.{AreSendable, IsProper, IsProperEvent}
 use Rattle.tp4_conn.specs.Table.{Event, Took, stepped}
 use Rattle.tp4_conn.proofs.Propers.{step_row}
 use Rattle.law_tp4_history.specs.Ends.{Alone, Back, Cause, Cc, Cr, Dr, End as HistoryEnd, Goes, IsMove, IsOffered, Offer, Times, To_known, Took as TookIn, Tpdu}
-use Rattle.law_tp4_moves.specs.Moves.{IsSourced, Moves, Sees, cause_of}
-use Rattle.law_tp4_moves.specs.Seen.{AreOffersOf, IsNumbered, IsOfferOf, seen}
+use Rattle.law_tp4_history.specs.Moves.{IsSourced, Moves, Sees, cause_of}
+use Rattle.law_tp4_history.specs.Seen.{AreOffersOf, IsNumbered, IsOfferOf, seen}
 use Rattle.law_tp4_lawful.proofs.ReferencesMet.{no_request, target_of}
 use Rattle.law_recovery_run.specs.Aside.{IsSentTo, Names}
 

@@ -28,7 +28,7 @@ use Rattle.tp4_entity.specs.steps.Places.{format_of}
 use Rattle.tp4_entity.proofs.Formats.{format_is}
 use Rattle.tp4_entity.proofs.Standings.{Free, within}
 use Rattle.law_tp4_history.specs.Tracks.{Whole}
-use Rattle.law_tp4_moves.specs.Moves.{Sees, stop_of, times_of}
+use Rattle.law_tp4_history.specs.Moves.{Sees, stop_of, times_of}
 use Rattle.tp4_world.specs.World.{World, latest}
 use Rattle.law_tp4_lawful.proofs.Known.{IsKnown, IsThere}
 use Rattle.law_tp4_lawful.proofs.Worlds.{Explains}

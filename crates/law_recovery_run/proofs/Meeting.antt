@@ -21,8 +21,8 @@ use Rattle.tp4_entity.specs.Association.{answer, is_called, is_registered, met, 
 use Rattle.tp4_entity.specs.Entity.{Acted, Entity, end_at, moved}
 use Rattle.tp4_entity.specs.References.{least_free}
 use Rattle.tp4_entity.proofs.Standings.{Free, free_least}
-use Rattle.law_tp4_moves.specs.Moves.{HasSource}
-use Rattle.law_tp4_moves.specs.Seen.{seen}
+use Rattle.law_tp4_history.specs.Moves.{HasSource}
+use Rattle.law_tp4_history.specs.Seen.{seen}
 use Rattle.tp4_world.specs.Telling.{ends_after, events_after}
 use Rattle.tp4_world.specs.declared.place.EndAt.{EndAt}
 use Rattle.law_recovery_run.specs.Aside.{Names}

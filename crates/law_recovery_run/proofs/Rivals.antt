@@ -12,7 +12,7 @@ use Rattle.law_tp4_history.specs.Tracks.{Whole}
 use Rattle.law_tp4_history.proofs.Meets.{swap}
 use Rattle.law_tp4_history.proofs.Sound.{OwnFacts, Sound, one_partner, partner_address, partner_low}
 use Rattle.law_tp4_history.proofs.Written.{Kept}
-use Rattle.law_tp4_moves.specs.Moves.{times_of}
+use Rattle.law_tp4_history.specs.Moves.{times_of}
 use Rattle.tp4_world.specs.World.{World}
 use Rattle.law_tp4_lawful.proofs.Known.{IsKnown}
 use Rattle.law_tp4_lawful.proofs.Worlds.{Explains}

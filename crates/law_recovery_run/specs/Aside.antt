@@ -14,7 +14,7 @@ use Rattle.tp4_conn.specs.Table.{Took}
 use Rattle.tp4_entity.specs.Association.{met}
 use Rattle.tp4_entity.specs.Entity.{Acted, Entity, at, end_at}
 use Rattle.tp4_entity.specs.Unit.{extended_of}
-use Rattle.law_tp4_moves.specs.Moves.{IsSourced}
+use Rattle.law_tp4_history.specs.Moves.{IsSourced}
 use Rattle.tp4_world.specs.World.{World}
 use Rattle.law_recovery_run.specs.Rivals.{IsGoing}
 

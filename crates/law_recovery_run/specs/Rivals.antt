@@ -4,7 +4,7 @@ use Rattle.script_journal.specs.Partner.{ArePartners}
 use Rattle.script_journal.specs.declared.event.Event.{Event}
 use Rattle.tp4_conn.specs.End.{End}
 use Rattle.tp4_entity.specs.Entity.{Entity}
-use Rattle.law_tp4_moves.specs.Moves.{stop_of}
+use Rattle.law_tp4_history.specs.Moves.{stop_of}
 use Rattle.tp4_world.specs.World.{World}
 use Rattle.law_tp4_lawful.specs.References.{IsEnd}
 

@@ -1,6 +1,8 @@
 pub mod Octets
+pub mod Ordered
 pub mod OutageOctets
 pub mod Outages
+pub mod Parting
 mod Parts
 pub mod Prompt
 mod Quiet

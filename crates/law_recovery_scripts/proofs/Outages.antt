@@ -12,9 +12,9 @@ use Rattle.clnp_system.specs.Setting.{Setting}
 use Rattle.clnp_system.specs.Tables.{rows_tables}
 use Rattle.law_clnp_step.specs.Step.{Begins}
 use Rattle.net_world.specs.Told.{told}
-use Rattle.law_clnp_fifo.specs.Calm.{IsCalmNet, titles_of}
-use Rattle.law_clnp_fifo.specs.Reached.{Reached}
-use Rattle.law_clnp_fifo.specs.Waiting.{Waits}
+use Rattle.law_clnp_net.specs.Calm.{IsCalmNet, titles_of}
+use Rattle.law_clnp_net.specs.Reached.{Reached}
+use Rattle.law_clnp_net.specs.Waiting.{Waits}
 use Rattle.script_journal.specs.declared.event.Event.{Event}
 use Rattle.script_lines.specs.Known.{Declared, nothing_declared}
 use Rattle.script_lines.specs.Script.{Says}
@@ -31,19 +31,18 @@ use Rattle.law_calm_run.proofs.Queueing.{all_parts, none_dropped}
 use Rattle.law_recovery_run.specs.Losses.{IsKept}
 use Rattle.law_recovery_run.proofs.Going.{has_gone}
 use Rattle.law_recovery_run.proofs.Ordered.{undropped}
-use Rattle.law_recovery_outage.specs.Laws.{OutagesOnWire, RecoveringIsKept}
-use Rattle.law_recovery_outage.specs.Outage.{AreKept, AreKeptCalm, AreOrdered, CalmOutagesFrom, OutagesFrom, RunsThrough}
-use Rattle.law_recovery_outage.proofs.Joining.{are_ordered}
+use Rattle.law_recovery.specs.Laws.{OutagesOnWire, RecoveringIsKept}
+use Rattle.law_recovery.specs.Outage.{AreKept, AreKeptCalm, AreOrdered, CalmOutagesFrom, OutagesFrom, RunsThrough}
+use Rattle.law_recovery.proofs.Joining.{are_ordered}
 use Rattle.law_setup.specs.Entities.{entities_of}
 use Rattle.law_setup.proofs.Made.{begins_first, net_law}
 use Rattle.law_setup.proofs.Peopled.{entities_new}
-use Rattle.law_setup_times.specs.Laws.{ScriptsAreOrdered}
+use Rattle.law_recovery_scripts.specs.Laws.{ScriptsAreOrdered, NetsRecover, ScriptsKept}
 use Rattle.script_world.proofs.Headline.{distinct, untouched}
 use Rattle.law_run.specs.Outage.{KeepsThrough, RunsThroughOutage}
 use Rattle.law_run.specs.World.{Net, NetDoes, Started, TransportNet, World, link_of_net}
 use Rattle.law_run.proofs.Calm.{have}
 use Rattle.law_run.proofs.CalmNet.{MakesCalm}
-use Rattle.law_recovery_scripts.specs.Laws.{NetsRecover, ScriptsKept}
 use Rattle.law_recovery_scripts.proofs.Parts.{lines_parts, settle_alone}
 use Rattle.law_recovery_scripts.proofs.Prompt.{nets_prompt}
 use Rattle.law_recovery_scripts.proofs.Quiet.{begins_quiet}

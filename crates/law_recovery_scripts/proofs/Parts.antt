@@ -14,7 +14,7 @@ use Rattle.tp4_number.specs.Number.{wire}
 use Rattle.tp4_world.specs.Run.{RunsLine, RunsLines}
 use Rattle.law_run.specs.World.{Net, NetDoes, TransportNet, link_of_net}
 use Rattle.law_run.proofs.CalmDrawn.{SetBy}
-use Rattle.law_setup_times.specs.Ordered.{set_up_by}
+use Rattle.law_recovery_scripts.specs.Ordered.{set_up_by}
 
 -- ---- what lines say
 

@@ -7,10 +7,10 @@ use Rattle.osi_base.specs.declared.unit.Unit.{Unit as CarriedUnit}
 use Rattle.osi_base.specs.declared.unit.Up.{Up}
 use Rattle.net_world.specs.Prompt.{IsPrompt, IsUsual}
 use Rattle.net_world.specs.Run.{Passes}
-use Rattle.law_clnp_fifo.specs.Calm.{titles_of}
-use Rattle.law_clnp_fifo.specs.Reached.{Reached}
-use Rattle.law_clnp_fifo.specs.Waiting.{Waits}
-use Rattle.law_clnp_fifo.proofs.Prompt.{is_prompt}
+use Rattle.law_clnp_net.specs.Calm.{titles_of}
+use Rattle.law_clnp_net.specs.Reached.{Reached}
+use Rattle.law_clnp_net.specs.Waiting.{Waits}
+use Rattle.law_clnp_net.proofs.Prompt.{is_prompt}
 use Rattle.law_recovery_run.specs.Ordered.{LeadsOn, ReachedFrom}
 use Rattle.law_run.specs.World.{Net, NetDoes, link_of_net}
 use Rattle.law_recovery_scripts.specs.Laws.{NetsArePrompt}

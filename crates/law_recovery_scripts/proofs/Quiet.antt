@@ -14,14 +14,14 @@ use Rattle.lan_bag.specs.steps.Openings.{IsClosedTo, is_open}
 use Rattle.lan_bag.proofs.Openings.{none_fresh}
 use Rattle.clnp_system.specs.Setting.{Setting}
 use Rattle.clnp_system.specs.Tables.{rows_tables}
-use Rattle.law_clnp_answers.specs.Beginning.{first_node}
+use Rattle.law_clnp_net.specs.Beginning.{first_node}
 use Rattle.law_clnp_step.specs.Step.{Begins}
 use Rattle.net_world.specs.Fifo.{NoneDropped}
-use Rattle.law_clnp_fifo.specs.Calm.{IsCalmNet}
-use Rattle.law_clnp_fifo.specs.Frames.{HasWaiting, IsSpent}
-use Rattle.law_clnp_fifo.proofs.Both.{both_tick}
-use Rattle.law_clnp_fifo.proofs.Gathered.{net_gathered}
-use Rattle.law_clnp_fifo.proofs.Spent.{closed_before}
+use Rattle.law_clnp_net.specs.Calm.{IsCalmNet}
+use Rattle.law_clnp_net.specs.Frames.{HasWaiting, IsSpent}
+use Rattle.law_clnp_net.proofs.Both.{both_tick}
+use Rattle.law_clnp_net.proofs.Gathered.{net_gathered}
+use Rattle.law_clnp_net.proofs.Spent.{closed_before}
 use Rattle.law_run.specs.World.{Net, NetDoes, link_of_net}
 
 beyond : {X : Type 0} (xs : List X) → slice_get xs (length xs) ≡ None

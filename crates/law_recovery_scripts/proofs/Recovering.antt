@@ -6,9 +6,9 @@ use Rattle.esis_tables.specs.Rows.{Rows}
 use Rattle.clnp_system.specs.Node.{Node}
 use Rattle.clnp_system.specs.Tables.{rows_tables}
 use Rattle.law_clnp_step.specs.Step.{Begins}
-use Rattle.law_clnp_fifo.specs.Calm.{titles_of}
-use Rattle.law_clnp_fifo.specs.Reached.{Reached}
-use Rattle.law_clnp_fifo.proofs.reached.Begun.{begins_reached}
+use Rattle.law_clnp_net.specs.Calm.{titles_of}
+use Rattle.law_clnp_net.specs.Reached.{Reached}
+use Rattle.law_clnp_net.proofs.reached.Begun.{begins_reached}
 use Rattle.script_journal.specs.declared.event.Event.{Event}
 use Rattle.script_lines.specs.Known.{Declared, nothing_declared}
 use Rattle.script_lines.specs.Script.{Says}
@@ -23,19 +23,16 @@ use Rattle.tp4_number.specs.Number.{whole, wire}
 use Rattle.law_setup.specs.Entities.{entities_of}
 use Rattle.law_setup.proofs.Made.{begins_first}
 use Rattle.law_setup.proofs.Peopled.{entities_new}
-use Rattle.law_setup_times.specs.Laws.{ScriptsAreOrdered}
+use Rattle.law_recovery_scripts.specs.Laws.{ScriptsAreOrdered, NetsAsk, NetsFollow, NetsRecover, ScriptsRecover}
 use Rattle.script_world.proofs.Headline.{distinct, untouched}
-use Rattle.law_recovery_asking.specs.Laws.{AsksOnWire}
-use Rattle.law_recovery_halves.specs.Laws.{FollowsOnWire, RunsEndIndications}
-use Rattle.law_recovery_ready.specs.Ready.{HasStarted}
+use Rattle.law_recovery.specs.Laws.{AsksOnWire, FollowsOnWire, RunsEndIndications, RecoversOnWire}
+use Rattle.law_recovery_run.specs.Ready.{HasStarted}
 use Rattle.law_recovery_run.specs.Run.{RunsOn}
-use Rattle.law_recovery_wire.specs.Laws.{RecoversOnWire}
 use Rattle.law_run.specs.World.{Net, NetDoes, Started, TransportNet, World, link_of_net}
 use Rattle.law_run.specs.Recovery.{RunsRecovering}
 use Rattle.law_run.specs.Serving.{ServesAgain}
 use Rattle.law_run.proofs.Calm.{have}
 use Rattle.law_run.proofs.CalmNet.{MakesCalm}
-use Rattle.law_recovery_scripts.specs.Laws.{NetsAsk, NetsFollow, NetsRecover, ScriptsRecover}
 use Rattle.law_recovery_scripts.specs.Nets.{OnNets}
 use Rattle.law_recovery_scripts.proofs.Parts.{lines_parts, settle_alone}
 use Rattle.law_recovery_scripts.proofs.Starting.{HasRunTo, has_run_to, lines_on}

@@ -16,7 +16,7 @@ use Rattle.law_tp4_pair.specs.CalmScript.{IsOneLan}
 use Rattle.law_tp4_lawful.specs.Limits.{IsProperLine}
 use Rattle.law_calm_run.specs.Run.{IsUnrouted}
 use Rattle.law_setup.proofs.Proper.{script_proper}
-use Rattle.law_setup_times.specs.Laws.{ScriptsAreOrdered}
+use Rattle.law_recovery_scripts.specs.Laws.{ScriptsAreOrdered}
 use Rattle.script_world.specs.Transports.{TransportRun}
 use Rattle.law_run.specs.World.{Net, NetDoes, Started, TransportNet, World, WorldRun, WorldRuns, link_of_net, running}
 use Rattle.law_run.proofs.CalmNet.{MakesCalm, makes_calm}

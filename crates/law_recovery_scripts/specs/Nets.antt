@@ -3,8 +3,8 @@ use Rattle.std.specs.Prelude.{ℕ, List}
 use Rattle.nsap.specs.declared.port.Port.{Port}
 use Rattle.lan_step.specs.declared.row.PortRow.{PortRow}
 use Rattle.clnp_system.specs.Setting.{Setting}
-use Rattle.law_clnp_fifo.specs.Calm.{IsCalmNet, titles_of}
-use Rattle.law_clnp_fifo.specs.Reached.{Reached}
+use Rattle.law_clnp_net.specs.Calm.{IsCalmNet, titles_of}
+use Rattle.law_clnp_net.specs.Reached.{Reached}
 use Rattle.law_run.specs.World.{Net}
 
 -- what is claimed from a start on is so of each such network

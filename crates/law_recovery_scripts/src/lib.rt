@@ -4,5 +4,6 @@
 mod laws;
 
 pub use laws::{
-    nets_are_prompt, nets_ask, nets_follow, nets_recover, outages_are_kept, scripts_recover,
+    lines_keep_order, nets_are_prompt, nets_ask, nets_follow, nets_recover, outages_are_kept,
+    scripts_are_ordered, scripts_part, scripts_recover,
 };

@@ -11,7 +11,7 @@ use Rattle.tp4_number.specs.Number.{near, wire}
 use Rattle.tp4_number.specs.Sender.{marked}
 use Rattle.tp4_number.specs.Traffic.{Rules}
 use Rattle.tp4_number.proofs.Past.{if_kept}
-use Rattle.law_tp4_recovery.specs.Urgent.{Asks, Asks_again, Ea_arrives, GoOn, UrgentMove, UrgentRoad, gone_on}
+use Rattle.law_recovery_pair.specs.Urgent.{Asks, Asks_again, Ea_arrives, GoOn, UrgentMove, UrgentRoad, gone_on}
 use Rattle.tp4_flow.specs.declared.rules.FlowRules.{FlowRules}
 use Rattle.tp4_flow.specs.declared.rules.Life.{Life}
 use Rattle.tp4_flow.specs.declared.rules.Life.TheVariants.{Goes, Exhausted}

@@ -11,8 +11,8 @@ use Rattle.tp4_number.specs.Receiver.{Inbox}
 use Rattle.tp4_number.specs.Traffic.{Answer, Rules}
 use Rattle.tp4_number.specs.Window.{is_held}
 use Rattle.tp4_number.proofs.Past.{if_kept}
-use Rattle.law_tp4_recovery.proofs.Keeping.{later_too}
-use Rattle.law_tp4_recovery.specs.Recovering.{Road}
+use Rattle.law_recovery_pair.proofs.Keeping.{later_too}
+use Rattle.law_recovery_pair.specs.Recovering.{Road}
 use Rattle.tp4_flow.specs.ReceivingHalf.{Half, Received, ak, aks as aks_for, block_in as block_there, dt_arrival, half_granted, is_next, taken_dt, taken_ed}
 use Rattle.tp4_flow.specs.declared.rules.FlowRules.{FlowRules}
 use Rattle.tp4_flow.specs.declared.step.Sent.{Sent}

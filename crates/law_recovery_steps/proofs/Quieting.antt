@@ -2,7 +2,7 @@
 use Rattle.std.proofs.Common.{◌≡◌, inl, inr, ◌<◌, ◌≤◌, ℕ, ◌+◌, Bool, true, if◌then◌else◌, List, [], Option, Some, None, refl, sym, subst, arith, Contains}
 use Rattle.tp4_number.specs.Expedited.{LeadsUrgently, Ticks, Urgent, UrgentEvent, quiet, urgently}
 use Rattle.tp4_number.specs.Traffic.{IsFit}
-use Rattle.law_tp4_recovery.proofs.Answering.{all_urgent}
+use Rattle.law_recovery_pair.proofs.Answering.{all_urgent}
 use Rattle.tp4_flow.specs.ReceivingHalf.{Half}
 use Rattle.tp4_sending.specs.SendingHalf.{FlowSender, block_in, due_of, normal_opens, urgent_last, urgent_opens}
 use Rattle.tp4_sending.specs.Kept.{urgent_base}

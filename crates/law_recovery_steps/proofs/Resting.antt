@@ -1,8 +1,8 @@
 -- A pair rides from a tick at which nothing waits to one at which nothing waits again, and rests there.
 use Rattle.std.proofs.Common.{◌≡◌, ◌⊎◌, inl, inr, ℕ, ◌+◌, ◌<◌, ◌≤◌, max, Bool, List, [], ◌∷◌, refl, sym, ◌∙◌, ap, subst, arith, Contains, ◌++◌}
 use Rattle.tp4_number.specs.Traffic.{IsFit, Rules, Tick, Traffic, after}
-use Rattle.law_tp4_recovery.specs.Recovering.{Move, Moves, Road, moved}
-use Rattle.law_tp4_recovery.proofs.Chains.{Stands, stands_on}
+use Rattle.law_recovery_pair.specs.Recovering.{Move, Moves, Road, moved}
+use Rattle.law_recovery_pair.proofs.Chains.{Stands, stands_on}
 use Rattle.tp4_flow.specs.ReceivingHalf.{Half}
 use Rattle.tp4_flow.specs.declared.rules.FlowRules.{FlowRules}
 use Rattle.tp4_flow.specs.declared.step.Sent.{Sent}
@@ -22,7 +22,7 @@ use Rattle.law_tp4_pair.proofs.Resting.{level_rests}
 use Rattle.law_recovery_steps.specs.Directions.{Rides}
 use Rattle.tp4_number.specs.Expedited.{Ea_comes, Ed_comes, LeadsUrgently, Resends_ed, Sends_ed, Ticks, Urgent, UrgentEvent, quiet, urgently}
 use Rattle.law_tp4_history.proofs.Outstanding.{urgently_more}
-use Rattle.law_tp4_recovery.specs.Urgent.{Asks, Asks_again, Ea_arrives, Ed_arrives, GoOn, Late_ea, Late_ed, Passes, UrgentMove, UrgentRoad, gone_on}
+use Rattle.law_recovery_pair.specs.Urgent.{Asks, Asks_again, Ea_arrives, Ed_arrives, GoOn, Late_ea, Late_ed, Passes, UrgentMove, UrgentRoad, gone_on}
 use Rattle.law_recovery_steps.specs.Asking.{urgent_road}
 use Rattle.law_recovery_steps.specs.Quieting.{IsYoung}
 use Rattle.law_recovery_steps.specs.Urging.{AreQuiet, Urges}

@@ -14,7 +14,7 @@ use Rattle.tp4_number.specs.Sender.{Sender, marked, told}
 use Rattle.tp4_number.specs.Traffic.{Answer}
 use Rattle.tp4_number.proofs.Accounts.{marked_high}
 use Rattle.tp4_number.proofs.Past.{if_kept}
-use Rattle.law_tp4_recovery.specs.Recovering.{Ak_arrives, Move, Moves, Sends}
+use Rattle.law_recovery_pair.specs.Recovering.{Ak_arrives, Move, Moves, Sends}
 use Rattle.tp4_flow.specs.ReceivingHalf.{Half}
 use Rattle.tp4_flow.specs.declared.rules.FlowRules.{FlowRules}
 use Rattle.tp4_flow.specs.declared.rules.Life.{Life}
@@ -30,8 +30,8 @@ use Rattle.law_recovery_pair.specs.Riding.{Aside, GoesOn, road_of, rules_by, sen
 use Rattle.law_recovery_pair.proofs.RidingSends.{AreWithin, IsAlike, due_within, moves_then, regroup, sent_at_then, told_same}
 use Rattle.law_recovery_pair.proofs.Viewing.{told_is}
 use Rattle.law_recovery_ends.specs.Due.{AreTried}
-use Rattle.law_tp4_moves.proofs.FlowOut.{shown-append}
-use Rattle.law_tp4_moves.specs.Lines.{shown_in}
+use Rattle.law_tp4_history.proofs.FlowOut.{shown-append}
+use Rattle.law_tp4_history.specs.Lines.{shown_in}
 use Rattle.law_tp4_pair.specs.Carrying.{pieces_in}
 use Rattle.law_tp4_pair.specs.Waiting.{AreData, View, aks_in, dts_in, eas_in}
 use Rattle.law_tp4_pair.proofs.Carried.{pieces_then}

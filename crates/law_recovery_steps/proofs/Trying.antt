@@ -3,8 +3,8 @@ use Rattle.std.proofs.Common.{◌≡◌, inl, inr, ℕ, zero, suc, ◌+◌, Bool
 use Rattle.std.proofs.lemmas.List.Elements.{Contains-append_left, Contains-append_right, Contains-append_cases, Contains-push}
 use Rattle.tp4_number.specs.Formats.{block_of}
 use Rattle.tp4_number.specs.Sender.{Sender, marked}
-use Rattle.law_tp4_recovery.specs.Recovering.{Moves, Resends}
-use Rattle.law_tp4_recovery.proofs.Keeping.{later_too}
+use Rattle.law_recovery_pair.specs.Recovering.{Moves, Resends}
+use Rattle.law_recovery_pair.proofs.Keeping.{later_too}
 use Rattle.tp4_flow.specs.ReceivingHalf.{Half}
 use Rattle.tp4_flow.specs.declared.rules.FlowRules.{FlowRules}
 use Rattle.tp4_sending.specs.SendingHalf.{marked_all}

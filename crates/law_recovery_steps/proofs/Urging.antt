@@ -6,8 +6,8 @@ use Rattle.tpdu.specs.declared.tpdu.Format.{Format}
 use Rattle.tp4_number.specs.Expedited.{Urgent}
 use Rattle.tp4_number.specs.Formats.{block_of}
 use Rattle.tp4_number.specs.Number.{whole, wire}
-use Rattle.law_tp4_recovery.proofs.Keeping.{later_too}
-use Rattle.law_tp4_recovery.specs.Urgent.{Ed_arrives, Passes, UrgentRoad}
+use Rattle.law_recovery_pair.proofs.Keeping.{later_too}
+use Rattle.law_recovery_pair.specs.Urgent.{Ed_arrives, Passes, UrgentRoad}
 use Rattle.tp4_flow.specs.ReceivingHalf.{Half, block_in as block_there, ea, is_before, is_next, taken_ed}
 use Rattle.tp4_flow.specs.declared.rules.FlowRules.{FlowRules}
 use Rattle.tp4_flow.specs.declared.step.Sent.{Sent}

@@ -1,7 +1,7 @@
 -- What a call of a sending half puts behind what waits, of EDs, is what their road gets by its moves (X.224, class 4: expedited data, retransmission on time-out).
 use Rattle.std.specs.Prelude.{◌≡◌, ◌⊎◌, ◌<◌, ℕ, List, ◌++◌, Option, Some, None, Contains}
 use Rattle.tp4_number.specs.Traffic.{Rules}
-use Rattle.law_tp4_recovery.specs.Urgent.{GoOn, UrgentMove, UrgentRoad}
+use Rattle.law_recovery_pair.specs.Urgent.{GoOn, UrgentMove, UrgentRoad}
 use Rattle.tp4_sending.specs.declared.tries.Tries.{Tries}
 use Rattle.tp4_sending.specs.SendingHalf.{FlowSender, Sendings, block_in, UrgentSender}
 use Rattle.tp4_sending.specs.Kept.{urgent_base}

@@ -3,14 +3,14 @@
 use Rattle.std.specs.Prelude.{◌≡◌, ◌⊎◌, ℕ, ◌<◌, List, [], ◌++◌, Contains}
 use Rattle.tp4_number.specs.Formats.{most_of}
 use Rattle.tp4_number.specs.Traffic.{Answer}
-use Rattle.law_tp4_recovery.specs.Recovering.{Road}
+use Rattle.law_recovery_pair.specs.Recovering.{Road}
 use Rattle.tp4_flow.specs.ReceivingHalf.{Half}
 use Rattle.tp4_sending.specs.SendingHalf.{FlowSender, Sendings, block_in}
 use Rattle.tp4_sending.specs.Settled.{IsSettled}
 use Rattle.law_recovery_pair.specs.Fitting.{Fits}
 use Rattle.law_recovery_pair.specs.Riding.{Aside, GoesOn, road_of, rules_by}
 use Rattle.law_recovery_ends.specs.Due.{AreTried}
-use Rattle.law_tp4_moves.specs.Lines.{shown_in}
+use Rattle.law_tp4_history.specs.Lines.{shown_in}
 use Rattle.law_tp4_pair.specs.Waiting.{AreData, View, aks_in, dts_in, eas_in}
 use Rattle.law_recovery_steps.specs.Sending.{IsFed, aks_on, dts_on}
 

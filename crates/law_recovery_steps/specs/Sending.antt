@@ -9,7 +9,7 @@ use Rattle.tp4_sending.specs.SendingHalf.{FlowSender, Sendings, block_in}
 use Rattle.tp4_sending.specs.Pieces.{cut_at, end_of}
 use Rattle.law_recovery_pair.specs.Riding.{Aside, GoesOn, road_of, rules_by, sent_aside, sent_at}
 use Rattle.law_recovery_ends.specs.Due.{AreTried}
-use Rattle.law_tp4_moves.specs.Lines.{shown_in}
+use Rattle.law_tp4_history.specs.Lines.{shown_in}
 use Rattle.law_tp4_pair.specs.Carrying.{pieces_in}
 use Rattle.law_tp4_pair.specs.Waiting.{AreData, View, aks_in, dts_in, eas_in}
 

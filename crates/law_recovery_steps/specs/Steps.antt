@@ -1,7 +1,7 @@
 -- Two Opened ends since when nothing is lost between them, with all that waits: each row of an end leaves them so, or ends the connection (X.224, class 4 state tables).
 use Rattle.std.specs.Prelude.{◌≡◌, ◌⊎◌, ℕ, List, ◌++◌}
-use Rattle.law_tp4_recovery.specs.Recovering.{Road}
-use Rattle.law_tp4_recovery.specs.Urgent.{UrgentRoad}
+use Rattle.law_recovery_pair.specs.Recovering.{Road}
+use Rattle.law_recovery_pair.specs.Urgent.{UrgentRoad}
 use Rattle.tp4_flow.specs.declared.rules.FlowRules.{FlowRules}
 use Rattle.tpdu.specs.declared.service.Options.{Options}
 use Rattle.tp4_flow.specs.declared.step.Sent.{Sent}

@@ -1,7 +1,7 @@
 -- EDs there and EAs back between two Opened ends since when nothing is lost, with all that waits: what waits there is what waits on their road (X.224, class 4: expedited
 -- data).
 use Rattle.std.specs.Prelude.{◌≡◌, ℕ, List, ◌++◌, Contains, None}
-use Rattle.law_tp4_recovery.specs.Urgent.{UrgentRoad}
+use Rattle.law_recovery_pair.specs.Urgent.{UrgentRoad}
 use Rattle.tp4_flow.specs.ReceivingHalf.{Half}
 use Rattle.tp4_sending.specs.SendingHalf.{FlowSender, Sendings, block_in}
 use Rattle.tp4_sending.specs.Kept.{urgent_base}

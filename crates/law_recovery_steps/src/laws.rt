@@ -2,13 +2,13 @@
 
 ghost use Rattle.std.specs.Prelude.{ℕ};
 ghost use Rattle.law_tp4_pair.specs.Standing.{Party};
-ghost use Rattle.law_tp4_recovery.specs.Recovering.{Road};
-ghost use Rattle.law_tp4_recovery.specs.Urgent.{UrgentRoad};
+ghost use Rattle.law_recovery_pair.specs.Recovering.{Road};
+ghost use Rattle.law_recovery_pair.specs.Urgent.{UrgentRoad};
 ghost use Rattle.tp4_conn.specs.declared.end_record.EndRecord.{EndRecord};
 ghost use Rattle.tp4_conn.specs.declared.states.InOpened.{InOpened};
 ghost use Rattle.tp4_flow.specs.ReceivingHalf.{Half};
 ghost use Rattle.tp4_sending.specs.SendingHalf.{FlowSender};
-ghost use Rattle.law_recovery_steps.specs.Laws.{AksRide, CallsAsk, CallsGoOut, CallsOnward, CallsRide, CallsUrge, ClocksRide, ClocksUrge, DirectionsBegin, DtsRide, EaAsks, EasUrge, EdsAreYoung, EdsRest, EdsRide, EdsUrge, FirstAkGoesOut, GrantsRide, LevelsShow, PairsBegin, PairsLead, PairsRecover, PairsRest, PairsShow, PairsStep, RepeatsRide, TakesOnward, TicksOnward};
+ghost use Rattle.law_recovery_steps.specs.Laws.{AksRide, CallsAsk, CallsGoOut, CallsOnward, CallsRide, CallsUrge, ClocksRide, ClocksUrge, DirectionsBegin, DtsRide, EaAsks, EasUrge, EdsAreYoung, EdsRest, EdsRide, EdsUrge, FirstAkGoesOut, GrantsRide, LevelsShow, PairsBegin, PairsLead, PairsRecover, PairsRest, PairsShow, PairsStep, RepeatsRide, TakesOnward, TicksOnward, AsksBegin, DataOpens, OpeningsStep, PairsOpen, PairsOpenLevel, PairsOpenRest, RefusalsEnd, RequestsAgain, RequestsLast, RequestsMet, RequestsStay, DtsFit, NumbersEnd, PairsPart, PartedInTime, LinesFit, NoneSendsEr, RowsKeepUp};
 ghost use Rattle.law_recovery_steps.specs.Steps.{Since};
 
 /// Each call of a sending half is moves of the road, and the DTs that it puts behind what waits are those that the road gets.
@@ -87,4 +87,83 @@ pub fn urges()
 pub fn eds_rest()
     ensures young { EdsAreYoung }
     ensures rest { EdsRest }
+{}
+
+/// An end in AkWait takes an AK, a DT, an ED or an EA: it is Opened, and both directions ride on; or it has left.
+pub fn data_opens()
+    ensures { DataOpens }
+{}
+
+/// Whatever happens next to a pair of which the called end is in AkWait: it is so, or both are Opened; or one of the ends has left.
+pub fn openings_step()
+    ensures { OpeningsStep }
+{}
+
+/// An end in CrWait and one in AkWait, of which the halves are as they were made, but for units that wait, are what such a pair begins with.
+pub fn asks_begin()
+    ensures { AsksBegin }
+{}
+
+/// Whatever was lost before a tick at which nothing waits: T1 ticks later, where nothing waits again and neither end is due, both are Opened; or
+/// one of the ends has left. And where the longer of T1 and W has passed, nothing is outstanding either way, and each knows what the other says: so
+/// each unit that was submitted is shown, but for want of credit or by the number rule.
+pub fn pairs_open()
+    ensures opened { PairsOpen }
+    ensures level { PairsOpenLevel }
+    ensures rest { PairsOpenRest }
+{}
+
+/// Where the calling end is in CrWait and the called one in UserWait they are so, whatever happens in order, until the user accepts; or one has left.
+pub fn requests_stay()
+    ensures next { RequestsStay }
+    ensures last { RequestsLast }
+{}
+
+/// T1 ticks after any tick an end in CrWait that is not due has sent its CR since. Where that comes a called end is there, or is made and
+/// waits for its user; or a DR goes back, which ends the calling end: since the called one is frozen, no user is at the selector, or no reference is free.
+pub fn requests_come()
+    ensures again { RequestsAgain }
+    ensures answered { RequestsMet }
+    ensures refused { RefusalsEnd }
+{}
+
+/// Whatever was lost up to a tick: T1 ticks later, where nothing waits and no number is due, none is outstanding.
+pub fn numbers_end()
+    ensures { NumbersEnd }
+{}
+
+/// Of two Opened ends since when nothing is lost, whatever happens to them in order: both are Opened, or the first to leave did so by its user, by what
+/// it had tried N times by then, at most T1 ticks later, by what it had not heard since before then, at most W ticks later, or by a TPDU
+/// that it may not take; and where nothing waits the other has left too.
+pub fn pairs_part()
+    ensures { PairsPart }
+{}
+
+/// So by a tick later than the longer of T1 and W after that none leaves.
+pub fn parted_in_time()
+    ensures { PartedInTime }
+{}
+
+/// A DT afloat that carries the piece of its number, of units none of which is too large, makes none too large where it comes.
+pub fn dts_fit()
+    ensures { DtsFit }
+{}
+
+/// Of two Opened ends in the lines of their connection, whatever happens to them in order from a tick on at which nothing waits: no DT that comes
+/// makes a unit too large, and no ED comes where expedited data is not agreed.
+pub fn lines_fit()
+    ensures { LinesFit }
+{
+    law_tp4_history::flowed();
+}
+
+/// Over each row an Opened end that is up to date since a tick is so still, whatever is lost; or its user disconnected, or a DR, an ER or a TPDU that it may not take came, or so many ticks have
+/// passed since then that it may be exhausted or inactive.
+pub fn rows_keep_up()
+    ensures { RowsKeepUp }
+{}
+
+/// No step of an entity sends an ER.
+pub fn none_sends_er()
+    ensures { NoneSendsEr }
 {}

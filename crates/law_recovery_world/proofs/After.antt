@@ -20,7 +20,7 @@ use Rattle.tp4_conn.specs.declared.states.StateData.{StateData}
 use Rattle.tp4_conn.specs.declared.states.StateData.TheVariants.{AkWait, Opened}
 use Rattle.tp4_conn.specs.End.{End, IsTimed}
 use Rattle.tp4_conn.specs.declared.timers.Timers.{Timers}
-use Rattle.law_tp4_credit.specs.Giving.{AllGive, GivesCredit}
+use Rattle.law_tp4_rows.specs.Giving.{AllGive, GivesCredit}
 use Rattle.tp4_entity.specs.Entity.{Acted, Entity, end_at}
 use Rattle.tp4_entity.specs.Step.{end_refusal, refused_by, restarted}
 use Rattle.tp4_entity.proofs.Restarts.{none_stands}

@@ -21,8 +21,8 @@ use Rattle.tp4_conn.specs.declared.states.StateData.{StateData}
 use Rattle.tp4_conn.specs.declared.states.StateData.TheVariants.{CrWait, AkWait, Opened}
 use Rattle.tp4_conn.specs.declared.timers.Timers.{Timers}
 use Rattle.tp4_conn.proofs.Timely.{if_kept}
-use Rattle.law_tp4_credit.specs.Giving.{AllGive, EventGives, GivesCredit, GivesRow}
-use Rattle.law_tp4_credit.proofs.GivingRows.{connect_gives, indicated_gives, row_gives}
+use Rattle.law_tp4_rows.specs.Giving.{AllGive, EventGives, GivesCredit, GivesRow}
+use Rattle.law_tp4_rows.proofs.GivingRows.{connect_gives, indicated_gives, row_gives}
 use Rattle.law_recovery_ends.specs.Knowing.{RowKnows, StageKnows, ViewIn}
 use Rattle.law_recovery_ends.proofs.Knowing.{row_knows}
 use Rattle.tp4_entity.specs.Association.{answers, calls, is_called, is_registered, met, met_by, new_end, refusal, requested, stateless, unmatched}

@@ -26,8 +26,8 @@ use Rattle.law_tp4_history.proofs.Sound.{one_partner}
 use Rattle.law_tp4_history.proofs.Taken.{taken_from, taken_noted}
 use Rattle.law_tp4_history.proofs.Tracked.{numbered}
 use Rattle.law_tp4_history.proofs.Written.{Kept}
-use Rattle.law_tp4_moves.specs.Moves.{times_of}
-use Rattle.law_tp4_moves.specs.Seen.{IsNumbered as HasNumber, seen}
+use Rattle.law_tp4_history.specs.Moves.{times_of}
+use Rattle.law_tp4_history.specs.Seen.{IsNumbered as HasNumber, seen}
 use Rattle.tp4_world.specs.World.{World}
 use Rattle.law_tp4_lawful.specs.References.{ComesTo, halves_at}
 use Rattle.law_tp4_lawful.proofs.Worlds.{Explains}

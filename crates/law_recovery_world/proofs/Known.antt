@@ -6,7 +6,7 @@ use Rattle.tp4_conn.specs.End.{End}
 use Rattle.tp4_conn.specs.declared.states.StateData.{StateData}
 use Rattle.tp4_conn.specs.declared.states.StateData.TheVariants.{Opened}
 use Rattle.tp4_conn.specs.declared.timers.Timers.{Timers}
-use Rattle.law_tp4_credit.specs.Giving.{GivesCredit}
+use Rattle.law_tp4_rows.specs.Giving.{GivesCredit}
 use Rattle.law_recovery_ends.specs.Knowing.{IsFreshView}
 use Rattle.tp4_entity.specs.Entity.{Entity, end_at}
 use Rattle.script_journal.specs.Partner.{ArePartners}

@@ -8,9 +8,9 @@ use Rattle.tp4_number.specs.declared.piece.Piece.{Piece}
 use Rattle.tp4_number.specs.Number.{ahead, whole, wire}
 use Rattle.tp4_number.specs.Receiver.{judged}
 use Rattle.tp4_number.proofs.Past.{if_kept}
-use Rattle.law_tp4_recovery.specs.Views.{Wider}
-use Rattle.law_tp4_recovery.proofs.Older.{older_then}
-use Rattle.law_tp4_recovery.proofs.Rising.{dt_rises, gives}
+use Rattle.law_recovery_pair.specs.Views.{Wider}
+use Rattle.law_recovery_pair.proofs.Older.{older_then}
+use Rattle.law_recovery_pair.proofs.Rising.{dt_rises, gives}
 use Rattle.tp4_flow.specs.ReceivingHalf.{Half, allowed, block_in, dt_arrival, half_granted, is_next, taken_dt, taken_ed}
 use Rattle.tp4_flow.specs.declared.rules.Life.{Life}
 use Rattle.tp4_flow.specs.declared.rules.Life.TheVariants.{Goes, Exhausted}

@@ -5,8 +5,8 @@ use Rattle.tpdu.specs.declared.tpdu.Tpdu.TheVariants.{Ak}
 use Rattle.tp4_number.specs.Number.{near, whole}
 use Rattle.tp4_number.specs.Sender.{Sender, is_newer}
 use Rattle.tp4_number.proofs.Past.{if_kept}
-use Rattle.law_tp4_recovery.specs.Views.{Further, IsNoOlder, Later, View, Wider}
-use Rattle.law_tp4_recovery.proofs.Older.{older_then, same_view}
+use Rattle.law_recovery_pair.specs.Views.{Further, IsNoOlder, Later, View, Wider}
+use Rattle.law_recovery_pair.proofs.Older.{older_then, same_view}
 use Rattle.tp4_sending.specs.SendingHalf.{FlowSender, Sendings, acknowledged, acknowledged_to, at, block_in, is_taken, new_sends, opened}
 use Rattle.law_recovery_pair.specs.Viewing.{KeepsView}
 use Rattle.law_recovery_pair.proofs.Viewing.{new_keep, open_keep, told_is}

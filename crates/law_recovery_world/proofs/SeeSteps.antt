@@ -16,7 +16,7 @@ use Rattle.tp4_conn.specs.declared.call.UserCall.{UserCall}
 use Rattle.tp4_conn.specs.declared.halves.Halves.{Halves}
 use Rattle.tp4_conn.specs.declared.timers.Timers.{Timers}
 use Rattle.tp4_conn.proofs.Timely.{if_kept}
-use Rattle.law_tp4_credit.specs.Giving.{EventGives, GivesCredit}
+use Rattle.law_tp4_rows.specs.Giving.{EventGives, GivesCredit}
 use Rattle.law_recovery_ends.specs.Knowing.{HasHeard}
 use Rattle.tp4_entity.specs.Association.{answers, calls, is_called, is_registered, met, met_by, new_end, refusal, requested, unmatched}
 use Rattle.tp4_entity.specs.Entity.{Acted, Entity, at, end_at, moved, with_end}

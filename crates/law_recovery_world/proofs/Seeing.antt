@@ -6,7 +6,7 @@ use Rattle.tp4_conn.specs.End.{End, Moved, end_of}
 use Rattle.tp4_conn.specs.Table.{Event, stepped}
 use Rattle.tp4_conn.specs.declared.states.StateData.{StateData}
 use Rattle.tp4_conn.specs.declared.timers.Timers.{Timers}
-use Rattle.law_tp4_credit.specs.Giving.{EventGives}
+use Rattle.law_tp4_rows.specs.Giving.{EventGives}
 use Rattle.law_recovery_ends.proofs.Knowing.{row_knows}
 use Rattle.tp4_entity.specs.Entity.{Entity, end_at, with_end}
 use Rattle.script_journal.specs.declared.event.Event.{Event as Told}

@@ -3,8 +3,8 @@ use Rattle.std.proofs.Common.{◌≡◌, ◌≤◌, inl, inr, ℕ, ◌+◌, List
 use Rattle.osi_base.specs.Link.{Link}
 use Rattle.tp4_number.specs.Sender.{Sender}
 use Rattle.tp4_number.specs.Traffic.{Answer}
-use Rattle.law_tp4_recovery.specs.Speaking.{Heard, Knows}
-use Rattle.law_tp4_recovery.specs.Views.{View, known, view_of}
+use Rattle.law_recovery_pair.specs.Speaking.{Heard, Knows}
+use Rattle.law_recovery_pair.specs.Views.{View, known, view_of}
 use Rattle.tp4_conn.specs.declared.halves.Halves.{Halves}
 use Rattle.tp4_conn.specs.declared.timers.Timers.{Timers}
 use Rattle.law_recovery_ends.proofs.Lines.{beginners_know}
@@ -17,7 +17,7 @@ use Rattle.law_tp4_history.proofs.Meets.{swap}
 use Rattle.law_tp4_history.proofs.Sound.{one_partner}
 use Rattle.law_tp4_history.proofs.Tracked.{numbered}
 use Rattle.law_tp4_history.proofs.Written.{Kept}
-use Rattle.law_tp4_moves.specs.Moves.{times_of}
+use Rattle.law_tp4_history.specs.Moves.{times_of}
 use Rattle.tp4_world.specs.World.{World}
 use Rattle.law_tp4_lawful.specs.Numbers.{IsOpenEnd}
 use Rattle.law_tp4_lawful.proofs.Known.{IsKnown}

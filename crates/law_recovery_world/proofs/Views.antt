@@ -4,9 +4,9 @@ use Rattle.std.proofs.lemmas.Option.{none-some}
 use Rattle.osi_base.specs.Link.{Link}
 use Rattle.tp4_number.specs.Sender.{Sender}
 use Rattle.tp4_number.specs.Traffic.{Traffic}
-use Rattle.law_tp4_recovery.specs.Speaking.{Knows, Speaks}
-use Rattle.law_tp4_recovery.specs.Views.{AreViews, IsNoOlder, View, known, said}
-use Rattle.law_tp4_recovery.proofs.Speaking.{views_known as in_order}
+use Rattle.law_recovery_pair.specs.Speaking.{Knows, Speaks}
+use Rattle.law_recovery_pair.specs.Views.{AreViews, IsNoOlder, View, known, said}
+use Rattle.law_recovery_pair.proofs.Speaking.{views_known as in_order}
 use Rattle.law_recovery_pair.specs.Viewing.{IsWithin}
 use Rattle.tp4_conn.specs.declared.halves.Halves.{Halves}
 use Rattle.tp4_conn.specs.declared.states.StateData.{StateData}
@@ -20,10 +20,10 @@ use Rattle.law_tp4_history.specs.Tracks.{Whole}
 use Rattle.law_tp4_history.proofs.Meets.{swap}
 use Rattle.law_tp4_history.proofs.Sound.{one_partner}
 use Rattle.law_tp4_history.proofs.Written.{Kept, written_reached}
-use Rattle.law_tp4_moves.specs.Lines.{IsReceivingAt}
-use Rattle.law_tp4_moves.specs.Moves.{times_of}
-use Rattle.law_tp4_moves.proofs.Beginnings.{fit_times}
-use Rattle.law_recovery_lines.proofs.Leading.{line_speaks}
+use Rattle.law_tp4_history.specs.Lines.{IsReceivingAt}
+use Rattle.law_tp4_history.specs.Moves.{times_of}
+use Rattle.law_tp4_history.proofs.Beginnings.{fit_times}
+use Rattle.law_recovery_world.proofs.Leading.{line_speaks}
 use Rattle.tp4_world.specs.World.{World}
 use Rattle.law_tp4_lawful.specs.Numbers.{IsOpenEnd}
 use Rattle.law_tp4_lawful.specs.References.{halves_at}

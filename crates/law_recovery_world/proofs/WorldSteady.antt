@@ -12,7 +12,7 @@ use Rattle.tp4_flow.specs.declared.step.EndEvent.{EndEvent}
 use Rattle.tp4_conn.specs.End.{End}
 use Rattle.tp4_conn.specs.declared.timers.Timers.{Timers}
 use Rattle.tp4_conn.specs.declared.halves.Halves.{Halves}
-use Rattle.law_tp4_credit.specs.Giving.{GivesCredit}
+use Rattle.law_tp4_rows.specs.Giving.{GivesCredit}
 use Rattle.tp4_entity.specs.Entity.{Entity}
 use Rattle.tp4_entity.specs.Unit.{EndsWith, Separates}
 use Rattle.law_tp4_proper.specs.Rest.{AreInTime, AreProper}

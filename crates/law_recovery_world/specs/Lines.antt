@@ -5,8 +5,8 @@ use Rattle.osi_base.specs.Link.{Link}
 use Rattle.tpdu.specs.declared.tpdu.Tpdu.{Tpdu}
 use Rattle.tpdu.specs.declared.tpdu.Tpdu.TheVariants.{Ak}
 use Rattle.tp4_number.specs.Traffic.{ReadsRightly}
-use Rattle.law_tp4_recovery.specs.Speaking.{Knows}
-use Rattle.law_tp4_recovery.specs.Views.{AreViews, said}
+use Rattle.law_recovery_pair.specs.Speaking.{Knows}
+use Rattle.law_recovery_pair.specs.Views.{AreViews, said}
 use Rattle.tp4_sending.specs.SendingHalf.{FlowSender, block_in}
 use Rattle.tp4_conn.specs.Table.{Took}
 use Rattle.tp4_conn.specs.declared.states.StateData.{StateData}

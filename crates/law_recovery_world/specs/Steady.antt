@@ -9,7 +9,7 @@ use Rattle.osi_base.specs.Calls.{Call}
 use Rattle.nsap.specs.Address.{selector_of}
 use Rattle.tpdu.specs.Values.{TpduAndSum}
 use Rattle.tp4_number.specs.Number.{whole}
-use Rattle.law_tp4_recovery.specs.Views.{IsNoOlder, View}
+use Rattle.law_recovery_pair.specs.Views.{IsNoOlder, View}
 use Rattle.tp4_flow.specs.ReceivingHalf.{Half, empty}
 use Rattle.tpdu.specs.declared.service.Options.{Options}
 use Rattle.tp4_flow.specs.declared.step.EndEvent.{EndEvent}
@@ -23,7 +23,7 @@ use Rattle.tp4_conn.specs.Agreeing.{flow_rules}
 use Rattle.tp4_conn.specs.End.{End}
 use Rattle.tp4_conn.specs.declared.timers.Timers.{Timers}
 use Rattle.tp4_conn.specs.Opened.{is_expedited}
-use Rattle.law_tp4_credit.specs.Giving.{Gives, GivesCredit}
+use Rattle.law_tp4_rows.specs.Giving.{Gives, GivesCredit}
 use Rattle.law_recovery_ends.specs.Knowing.{StageKnows}
 use Rattle.law_tp4_pair.specs.Telling.{Tells}
 use Rattle.law_tp4_pair.specs.Pairs.{IsToldIn}

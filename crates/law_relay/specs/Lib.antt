@@ -1,2 +1,6 @@
+pub mod Asked
 pub mod Notes
+pub mod Relays
+pub mod Rows
+pub mod Services
 pub mod Through

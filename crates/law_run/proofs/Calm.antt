@@ -11,8 +11,8 @@ use Rattle.esis_tables.specs.Rows.{Rows}
 use Rattle.clnp_system.specs.Node.{Node}
 use Rattle.clnp_system.specs.Tables.{rows_tables}
 use Rattle.law_clnp_step.specs.Step.{Begins}
-use Rattle.law_clnp_fifo.specs.Waiting.{WaitsIn}
-use Rattle.law_clnp_fifo.proofs.Carried.{begins_empty, is_fifo}
+use Rattle.law_clnp_net.specs.Waiting.{WaitsIn}
+use Rattle.law_clnp_net.proofs.Carried.{begins_empty, is_fifo}
 use Rattle.net_world.specs.Fifo.{IsFifo}
 use Rattle.net_world.specs.Told.{told}
 use Rattle.tp4_number.specs.Number.{whole, wire}
@@ -36,12 +36,12 @@ use Rattle.law_calm_run.specs.Run.{HaveEntities, IsCalmRun, IsStart}
 use Rattle.law_calm_run.specs.Service.{end_at_number}
 use Rattle.law_calm_run.proofs.Indicating.{all_indicated}
 use Rattle.law_calm_run.proofs.Queueing.{all_parts, none_dropped}
-use Rattle.law_calm_service.proofs.Accepting.{all_confirmed}
-use Rattle.law_calm_service.proofs.Ending.{all_have_pairs, none_due}
-use Rattle.law_calm_service.specs.Pairs.{ShowAll}
+use Rattle.law_calm_run.proofs.Accepting.{all_confirmed}
+use Rattle.law_calm_run.proofs.Ending.{all_have_pairs, none_due}
+use Rattle.law_calm_run.specs.Pairs.{ShowAll}
 use Rattle.law_tp4_pair.proofs.ShownIn.{claims}
-use Rattle.law_calm_service.proofs.Wired.{indicated_on_wire}
-use Rattle.law_calm_service.proofs.WiredEnds.{confirmed_on_wire, shown_on_wire}
+use Rattle.law_calm_run.proofs.Wired.{indicated_on_wire}
+use Rattle.law_calm_run.proofs.WiredEnds.{confirmed_on_wire, shown_on_wire}
 use Rattle.script_setup.specs.Fitting.{IsWell}
 use Rattle.script_setup.specs.SetUp.{SetUp, timers_of, titles_of as titles_said}
 use Rattle.law_setup.specs.Entities.{entities_of}

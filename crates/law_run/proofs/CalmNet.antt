@@ -17,7 +17,7 @@ use Rattle.clnp_route.proofs.Prefixes.{next_found, one_hop}
 use Rattle.esis_tables.specs.Rows.{no_rows}
 use Rattle.clnp_system.specs.Node.{fresh_node}
 use Rattle.clnp_system.specs.Setting.{Setting, is_group}
-use Rattle.law_clnp_fifo.specs.Calm.{AreBoth, IsCalmNet, end_row}
+use Rattle.law_clnp_net.specs.Calm.{AreBoth, IsCalmNet, end_row}
 use Rattle.script_lines.specs.declared.line.Line.{Line}
 use Rattle.script_lines.specs.declared.line.Line.TheVariants as lines
 use Rattle.law_tp4_pair.specs.CalmScript.{IsOneLan, IsRouted}

@@ -16,9 +16,8 @@ use Rattle.script_setup.specs.Fitting.{IsWell}
 use Rattle.script_setup.specs.SetUp.{SetUp, nothing_said, set_up}
 use Rattle.script_setup.proofs.Wellness.{nothing_well, well_after}
 use Rattle.script_lines.specs.declared.words.Dialect.TheVariants as dialects
-use Rattle.law_run.specs.World.{SetsUp, Started, WorldRun, WorldRuns, is_start}
+use Rattle.law_run.specs.World.{SetsUp, Started, WorldRun, WorldRuns, is_start, World}
 use Rattle.law_run.proofs.WorldLaws.{started}
-use Rattle.law_run.specs.World.{World}
 use Rattle.script_world.specs.declared.play.World.TheVariants.{SettingUp}
 use Rattle.law_setup.specs.Agreeing.{AreOne}
 use Rattle.script_bench.specs.steps.Came.{came}

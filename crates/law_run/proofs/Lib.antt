@@ -1,4 +1,3 @@
-mod AskedLines
 pub mod Calm
 pub mod CalmDrawn
 mod CalmNames
@@ -7,7 +6,6 @@ mod CalmRows
 pub mod CalmRun
 pub mod Handled
 pub mod Lawful
-mod Legible
 pub mod ScriptRuns
 pub mod Served
 pub mod WorldLaws

@@ -19,7 +19,7 @@ use Rattle.law_tp4_pair.specs.Claim.{AllShown, IsUndropped}
 use Rattle.tp4_entity.specs.Entity.{Entity}
 use Rattle.tp4_world.specs.World.{entity_at}
 use Rattle.law_calm_run.specs.Service.{IsIndicationOf, MayIndicate, end_at_number}
-use Rattle.law_calm_service.specs.Confirms.{IsUnanswered}
+use Rattle.law_calm_run.specs.Confirms.{IsUnanswered}
 use Rattle.script_lines.specs.declared.words.Dialect.TheVariants as dialects
 use Rattle.law_run.specs.World.{TransportNet, World, WorldRun, WorldRuns, WorldStep, link_of_net, running}
 use Rattle.tp4_conn.specs.declared.timers.Timers.{Timers}

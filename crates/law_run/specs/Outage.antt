@@ -1,6 +1,6 @@
 -- What a script promises the users of its network over an outage (X.214, queue model of the transport service; X.224, class 4: retransmission on time-out, inactivity control). Two end systems are
 -- on one LAN. From one line on, at tick s, anything goes but an `inject` line, up to a `settle` that leaves nothing to deliver, at tick t0; behind it each line that does anything is followed by a
--- `settle`, and nothing is dropped. Where that outage is short, each two ends that were Opened and up to date at s are Opened still (`AreKept` of `law_recovery_outage`).
+-- `settle`, and nothing is dropped. Where that outage is short, each two ends that were Opened and up to date at s are Opened still (`AreKept` of `law_recovery_run`).
 use Rattle.std.specs.Prelude.{◌≡◌, ℕ, List, [], ◌∷◌, ◌++◌, None}
 use Rattle.std.specs.List.{AllByRecursion}
 use Rattle.osi_base.specs.Link.{IsLeastFresh}
@@ -10,7 +10,7 @@ use Rattle.script_lines.specs.declared.line.Line.{Line}
 use Rattle.script_lines.specs.declared.line.Line.TheVariants as lines
 use Rattle.tp4_conn.specs.declared.timers.Timers.{Timers}
 use Rattle.law_tp4_pair.specs.CalmScript.{IsOneLan, IsSettledScript}
-use Rattle.law_recovery_service.specs.Kept.{AreKept, AreKeptCalm}
+use Rattle.law_recovery_run.specs.Kept.{AreKept, AreKeptCalm}
 use Rattle.law_recovery_run.specs.Losses.{IsKept}
 use Rattle.law_run.specs.World.{TransportNet, WorldRun, WorldRuns, link_of_net, running}
 

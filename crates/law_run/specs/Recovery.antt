@@ -1,6 +1,6 @@
 -- What a script promises the users of its network once nothing is lost any more (X.214, queue model of the transport service). Two end systems are on one LAN; from one `settle` on each line that
 -- does anything is followed by a `settle`, and nothing is dropped. Before it anything goes, but an `inject` line. Then each two ends that were Opened at that `settle` are so still, and from as
--- many ticks on as the longer of T1 and W have shown all that the other submitted; or one of them went, by its user or for a named cause (`Recovered` of `law_recovery_service`).
+-- many ticks on as the longer of T1 and W have shown all that the other submitted; or one of them went, by its user or for a named cause (`Recovered` of `law_recovery_run`).
 use Rattle.std.specs.Prelude.{◌≡◌, ℕ, List, [], ◌∷◌, ◌++◌, None}
 use Rattle.std.specs.List.{AllByRecursion}
 use Rattle.osi_base.specs.Link.{IsLeastFresh}

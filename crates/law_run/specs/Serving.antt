@@ -3,9 +3,9 @@
 use Rattle.std.specs.Prelude.{List}
 use Rattle.script_journal.specs.declared.event.Event.{Event}
 use Rattle.tp4_conn.specs.declared.timers.Timers.{Timers}
-use Rattle.law_recovery_service.specs.Asked.{HaveAsked}
-use Rattle.law_recovery_service.specs.Halves.{HalvesFollow, IndicationsEnd}
-use Rattle.law_recovery_service.specs.Recovered.{Recovered}
+use Rattle.law_recovery_run.specs.Asked.{HaveAsked}
+use Rattle.law_recovery_run.specs.Halves.{HalvesFollow, IndicationsEnd}
+use Rattle.law_recovery_run.specs.Recovered.{Recovered}
 use Rattle.law_run.specs.World.{TransportNet, link_of_net}
 
 -- by the lines since a `settle` from which on nothing is lost: the ends that were Opened there (`recovered`); those that were in CrWait there, from T1 after it on (`asked`); those whose partner had

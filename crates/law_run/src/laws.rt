@@ -3,8 +3,6 @@
 ghost use Rattle.std.specs.Prelude.{◌≡◌, List, None, ℕ};
 ghost use Rattle.law_run.specs.Laws.{ServesCalmScripts, RunsScripts};
 ghost use Rattle.script_lines.specs.declared.words.Dialect.TheVariants as dialects;
-ghost use Rattle.law_run.specs.Bench.{bench_meaning, first_bench};
-ghost use Rattle.line_loop.specs.Laws.{AsksSomething, OneCourse, AsksOne};
 ghost use Rattle.script_journal.specs.declared.event.Event.{Event};
 ghost use Rattle.script_lines.specs.declared.line.Line.{Line};
 ghost use Rattle.script_lines.specs.Injecting.{HasNoInject};
@@ -62,22 +60,6 @@ pub fn systems_are_silent()
 pub fn script_runs()
     ensures { RunsScripts }
 {}
-
-/// All octets ask for a status and a transcript: each line has a step, or fills the journal, or is refused.
-pub fn some_outcome()
-    ensures { (all : List ℕ) → AsksSomething bench_meaning first_bench all }
-{
-    script_bench::some_outcome::<crate::world::NetWorld>();
-}
-
-/// A script does not ask for two statuses or two transcripts; and octets do not come to two of these: they were read, they
-/// are refused at a line, they pass a limit.
-pub fn one_outcome()
-    ensures course { OneCourse bench_meaning }
-    ensures asks { AsksOne bench_meaning }
-{
-    script_bench::one_outcome::<crate::world::NetWorld>();
-}
 
 /// After a calm script nothing is missing, as long as nothing was dropped: each two partner ends that are both Opened have shown all that the
 /// other was asked to send, but for want of credit or by the number rule; a connect request has its indication by the `settle` behind it,

@@ -12,7 +12,7 @@ use Rattle.nsap.specs.declared.text.NsapFault.{NsapFault}
 use Rattle.nsap.specs.steps.Digits.{IsDigits}
 use Rattle.nsap.proofs.TextLemmas.{length-hex_octets, IsDigits-text_fault}
 use Rattle.law_carrier_answers.specs.Answers.{AreOctets}
-use Rattle.law_clnp_answers.specs.Standing.{IsNsap, IsSnpa}
+use Rattle.law_clnp_net.specs.Standing.{IsNsap, IsSnpa}
 use Rattle.script_lines.specs.declared.cause.LineCause.TheVariants as causes
 use Rattle.script_lines.specs.Field.{as_octets, as_station, as_title, is_word, octets_of, station_of, title_of}
 

@@ -22,12 +22,12 @@ use Rattle.law_clnp_step.specs.Step.{Begins}
 use Rattle.law_clnp_step.proofs.Kept.{net_keeps}
 use Rattle.law_clnp_step.proofs.Passed.{all_ticked}
 use Rattle.law_clnp_step.proofs.Seen.{belongs_same}
-use Rattle.law_clnp_answers.specs.Beginning.{BeginsAs, MayBegin}
-use Rattle.law_clnp_answers.specs.Serving.{StandsInOctets, ComesInOctets as NetComes}
-use Rattle.law_clnp_answers.specs.Standing.{is_nsap}
-use Rattle.law_clnp_answers.proofs.Always.{begins_serving, begins_standing, serves}
-use Rattle.law_clnp_answers.proofs.Bags.{one_bag_answer}
-use Rattle.law_clnp_answers.proofs.Steps.{one_answer, one_beginning}
+use Rattle.law_clnp_net.specs.Beginning.{BeginsAs, MayBegin}
+use Rattle.law_clnp_net.specs.Serving.{StandsInOctets, ComesInOctets as NetComes}
+use Rattle.law_clnp_net.specs.Standing.{is_nsap}
+use Rattle.law_clnp_net.proofs.Always.{begins_serving, begins_standing, serves}
+use Rattle.law_clnp_net.proofs.Bags.{one_bag_answer}
+use Rattle.law_clnp_net.proofs.Steps.{one_answer, one_beginning}
 use Rattle.esis_tables.specs.Rows.{Rows}
 use Rattle.net_world.specs.First.{IsFirst}
 use Rattle.tp4_world.specs.Total.{ComesInOctets, Serves, ServesOn}

@@ -23,7 +23,7 @@ use Rattle.inactive_step.proofs.Kept.{inactive_keeps}
 use Rattle.law_inactive_answers.specs.Standing.{FitsRow, Stands}
 use Rattle.law_inactive_answers.proofs.Always.{begins_serving, serves}
 use Rattle.law_inactive_answers.proofs.Once.{one_net_answer}
-use Rattle.law_clnp_answers.specs.Standing.{IsNsap, IsSnpa, is_nsap}
+use Rattle.law_clnp_net.specs.Standing.{IsNsap, IsSnpa, is_nsap}
 use Rattle.net_world.specs.First.{IsFirst}
 use Rattle.tp4_world.specs.Run.{transport_address}
 use Rattle.tp4_world.specs.Total.{Serves, ServesOn}

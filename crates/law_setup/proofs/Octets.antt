@@ -13,8 +13,8 @@ use Rattle.clnp_system.specs.Node.{Node}
 use Rattle.clnp_system.specs.Setting.{Setting}
 use Rattle.esis_tables.specs.Rows.{Rows}
 use Rattle.law_clnp_step.specs.Sound.{IsPeopled, settings_of}
-use Rattle.law_clnp_answers.specs.Beginning.{MayBegin, first_node}
-use Rattle.law_clnp_answers.specs.Standing.{IsHop, IsNsap, IsSetUp, IsSnpa}
+use Rattle.law_clnp_net.specs.Beginning.{MayBegin, first_node}
+use Rattle.law_clnp_net.specs.Standing.{IsHop, IsNsap, IsSetUp, IsSnpa}
 use Rattle.script_lines.specs.declared.words.Word.{Word}
 use Rattle.script_lines.specs.declared.words.Word.TheVariants as words
 use Rattle.script_lines.specs.declared.line.Line.{Line}

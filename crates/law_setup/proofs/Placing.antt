@@ -4,8 +4,8 @@ use Rattle.std.specs.Prelude.{◌-◌, find, if◌then◌else◌, option_map, re
 use Rattle.std.specs.List.{AllByRecursion}
 use Rattle.std.proofs.lemmas.Bool.Decides.{nat_tests}
 use Rattle.std.proofs.lemmas.Option.{none-some}
-use Rattle.law_clnp_answers.specs.Standing.{IsNsap, is_nsap}
-use Rattle.law_clnp_answers.proofs.answered.Carrying.{nsap_passes}
+use Rattle.law_clnp_net.specs.Standing.{IsNsap, is_nsap}
+use Rattle.law_clnp_net.proofs.answered.Carrying.{nsap_passes}
 use Rattle.tp4_conn.specs.End.{End}
 use Rattle.tp4_entity.specs.Entity.{Entity, there}
 use Rattle.law_tp4_proper.specs.Octets.{EndInOctets}

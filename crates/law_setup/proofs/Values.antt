@@ -25,7 +25,7 @@ use Rattle.script_lines.specs.Grammar.{next_column, count_fault, at_column, fiel
 use Rattle.script_lines.specs.Known.{Declared, no_parts, given_title, given_station, given_prefix, system_at, lan_at, path_at, has_port, has_station, is_among, routes_of, selectors_of}
 use Rattle.script_lines.specs.Reading.{passing, system_of, lan_of, port_lan_of, route_lan_of, end_system_of, new_name, new_selector, selector_of as given_selector, unset_key, value_of, path_kind_of, new_title, new_station, new_prefix, listed_names, intermediate, each_intermediate, hops_of}
 use Rattle.script_lines.specs.Settings.{key_of, least_of, most_of, keeps_order, with_setting}
-use Rattle.law_clnp_answers.specs.Standing.{IsNsap, IsSnpa}
+use Rattle.law_clnp_net.specs.Standing.{IsNsap, IsSnpa}
 use Rattle.script_setup.specs.Fitting.{IsTitle}
 use Rattle.law_setup.proofs.InOctets.{station_octets, title_octets}
 

@@ -3,7 +3,7 @@ use Rattle.std.specs.Prelude.{ℕ, ◌<◌, ◌≤◌, List, length, IfSome}
 use Rattle.std.specs.List.{AllByRecursion}
 use Rattle.nsap.specs.declared.port.Hop.{Hop}
 use Rattle.law_carrier_answers.specs.Answers.{AreOctets}
-use Rattle.law_clnp_answers.specs.Standing.{IsNsap, IsSnpa}
+use Rattle.law_clnp_net.specs.Standing.{IsNsap, IsSnpa}
 use Rattle.tp4_conn.specs.End.{IsSized}
 use Rattle.script_lines.specs.declared.line.Line.{Line}
 use Rattle.script_lines.specs.declared.line.Line.TheVariants as lines

@@ -24,7 +24,7 @@ use Rattle.inactive_step.specs.Rows.{row_on}
 use Rattle.inactive_step.specs.Step.{Brings, InactiveArrives, InactiveOffers, InactiveTakesUp, InactiveTicks, Long, NoWay, Sent, plain_wish}
 use Rattle.inactive_step.proofs.Found.{found_of}
 use Rattle.inactive_step.proofs.Seen.{ends_of}
-use Rattle.law_clnp_answers.specs.Standing.{is_nsap}
+use Rattle.law_clnp_net.specs.Standing.{is_nsap}
 use Rattle.law_clnp_step.proofs.Lists.{all_both}
 use Rattle.law_inactive_answers.specs.Standing.{FitsRow, Stands}
 use Rattle.law_inactive_answers.proofs.Always.{begins_serving, serves}

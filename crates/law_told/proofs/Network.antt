@@ -26,10 +26,10 @@ use Rattle.law_clnp_step.specs.Handling.{Changes, Handles, IsReceived, Nobody, O
 use Rattle.law_clnp_step.specs.Network.{Network, net_link}
 use Rattle.law_clnp_step.specs.Step.{Arrives, Begins, IsDropped, IsFull, IsNobodys, IsTaken, NetOffers, NetStep, NetTakesUp, NetTicks, is_source}
 use Rattle.script_lines.specs.Tags.{Tags}
-use Rattle.law_clnp_answers.specs.Serving.{StandsInOctets}
-use Rattle.law_clnp_answers.specs.Standing.{FitsBag, FitsKept, FitsUp, IsFrame, is_nsap, is_port}
-use Rattle.law_clnp_answers.proofs.Always.{serves}
-use Rattle.law_clnp_answers.proofs.answered.Carrying.{bag_answers}
+use Rattle.law_clnp_net.specs.Serving.{StandsInOctets}
+use Rattle.law_clnp_net.specs.Standing.{FitsBag, FitsKept, FitsUp, IsFrame, is_nsap, is_port}
+use Rattle.law_clnp_net.proofs.Always.{serves}
+use Rattle.law_clnp_net.proofs.answered.Carrying.{bag_answers}
 use Rattle.law_clnp_step.proofs.Lists.{all_back, all_both, all_front}
 use Rattle.law_told.proofs.Carriers.{IsToldUp}
 use Rattle.law_told.proofs.Notes.{BagTold, GoesTo, bag_told, gathered_told, pick_of, same_frames}

@@ -28,7 +28,7 @@ use Rattle.lan_step.specs.Rows.{is_on, room_on, same_port, same_snpa, sender_of}
 use Rattle.lan_step.specs.declared.row.PortRow.{PortRow}
 use Rattle.law_carrier_answers.specs.Answers.{AreOctets}
 use Rattle.script_lines.specs.Tags.{Tags}
-use Rattle.law_clnp_answers.specs.Standing.{IsSnpa}
+use Rattle.law_clnp_net.specs.Standing.{IsSnpa}
 use Rattle.law_clnp_step.proofs.Lists.{all_both}
 use Rattle.law_tp4_proper.proofs.Octets.{octet_at}
 use Rattle.law_told.proofs.Carriers.{IsToldUp}

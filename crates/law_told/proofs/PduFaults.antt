@@ -7,8 +7,8 @@ use Rattle.law_carrier_answers.specs.Answers.{AreOctets}
 use Rattle.clnp_options.specs.declared.reason.Fault.{Fault}
 use Rattle.clnp_header.specs.Faults.{IsPduFault, first_fault, steps}
 use Rattle.clnp_header.specs.Flags.{is_dt, is_segmented, kind_of, wants_report}
-use Rattle.law_clnp_answers.proofs.written.Faults.{Low, bounded, low_must, low_options, low_reported}
-use Rattle.law_clnp_answers.proofs.written.Octets.{octets_take}
+use Rattle.law_clnp_net.proofs.written.Faults.{Low, bounded, low_must, low_options, low_reported}
+use Rattle.law_clnp_net.proofs.written.Octets.{octets_take}
 use Rattle.law_tp4_proper.proofs.Octets.{octet_at}
 
 six : (test : Bool) → (if test then 6 else 0) ≤ 6

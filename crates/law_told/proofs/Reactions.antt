@@ -51,11 +51,11 @@ use Rattle.law_carrier_answers.specs.Answers.{AreOctets}
 use Rattle.script_lines.specs.Tags.{Tags}
 use Rattle.script_journal.specs.Injective.{plain}
 use Rattle.script_journal.specs.CauseWords.{hello_cause_text, hello_text}
-use Rattle.law_clnp_answers.specs.Standing.{IsFrame, IsSnpa}
-use Rattle.law_clnp_answers.proofs.written.Discarding.{code_fits}
-use Rattle.law_clnp_answers.proofs.written.Fitting.{FitsOption}
-use Rattle.law_clnp_answers.proofs.written.Reading.{front_fits, front_hello_fits}
-use Rattle.law_clnp_answers.proofs.written.Writes.{FitsHello}
+use Rattle.law_clnp_net.specs.Standing.{IsFrame, IsSnpa}
+use Rattle.law_clnp_net.proofs.written.Discarding.{code_fits}
+use Rattle.law_clnp_net.proofs.written.Fitting.{FitsOption}
+use Rattle.law_clnp_net.proofs.written.Reading.{front_fits, front_hello_fits}
+use Rattle.law_clnp_net.proofs.written.Writes.{FitsHello}
 use Rattle.law_tp4_proper.proofs.Octets.{octet_at}
 use Rattle.law_told.proofs.Carriers.{IsToldUp}
 use Rattle.law_told.proofs.PduFaults.{pdu_fault_low}

@@ -1,10 +1,10 @@
 -- The network over the LANs is one that tells.
 use Rattle.std.proofs.Common.{◌≡◌, ◌<◌, ℕ, true, List, length, sym, subst, arith}
 use Rattle.law_carrier_answers.specs.Answers.{AreOctets}
-use Rattle.law_clnp_answers.specs.Standing.{is_nsap}
-use Rattle.law_clnp_answers.specs.Serving.{StandsInOctets}
-use Rattle.law_clnp_answers.proofs.Always.{begins_serving, serves}
-use Rattle.law_clnp_answers.proofs.answered.Carrying.{nsap_of}
+use Rattle.law_clnp_net.specs.Standing.{is_nsap}
+use Rattle.law_clnp_net.specs.Serving.{StandsInOctets}
+use Rattle.law_clnp_net.proofs.Always.{begins_serving, serves}
+use Rattle.law_clnp_net.proofs.answered.Carrying.{nsap_of}
 use Rattle.clnp_system.specs.Node.{Node}
 use Rattle.esis_tables.specs.Rows.{Rows}
 use Rattle.lan_step.specs.Bag.{BagStep, link_of, new_bag}

@@ -2,7 +2,7 @@
 use Rattle.std.proofs.Common.{◌≡◌, ◌<◌, ℕ, ◌+◌, true, List, length, Some, Ok, sym, subst, arith}
 use Rattle.osi_base.specs.Link.{Link}
 use Rattle.osi_base.specs.Calls.{Call, Keeps}
-use Rattle.law_clnp_answers.specs.Standing.{is_nsap}
+use Rattle.law_clnp_net.specs.Standing.{is_nsap}
 use Rattle.line_loop.specs.Lines.{most_lines}
 use Rattle.script_journal.specs.declared.event.Event.{Event}
 use Rattle.script_lines.specs.declared.words.Dialect.{Dialect}
@@ -18,7 +18,7 @@ use Rattle.script_setup.specs.SetUp.{SetUp, titles_of as titles_said}
 use Rattle.law_setup.specs.Entities.{entities_of}
 use Rattle.law_setup.specs.Lines.{IsInOctets}
 use Rattle.law_setup.specs.Networks.{NetworkLaws, SendsNoDatagrams}
-use Rattle.script_world.specs.Plays.{Going, PlayLaws, Playing}
+use Rattle.script_world.specs.Plays.{Going, PlayLaws, Playing, world_acts}
 use Rattle.script_world.specs.Transports.{RunsEnds, StartsEnds, TransportRun, tp_play}
 use Rattle.script_world.specs.declared.play.World.{World}
 use Rattle.law_setup.proofs.Placing.{entities_ready, titles_own}
@@ -26,7 +26,6 @@ use Rattle.script_world.specs.steps.Transported.{tp_going, tp_laws}
 use Rattle.tp4_number.specs.Number.{wire}
 use Rattle.tp4_world.specs.Run.{Starts}
 use Rattle.tp4_world.specs.World.{World as TransportWorld}
-use Rattle.script_world.specs.Plays.{world_acts}
 use Rattle.law_told.specs.Reading.{IsLegible}
 use Rattle.law_told.proofs.Carriers.{Tells}
 use Rattle.law_told.proofs.Events.{EachFrom}

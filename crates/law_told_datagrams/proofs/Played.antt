@@ -4,8 +4,8 @@ use Rattle.std.specs.Prelude.{slice_get, Some}
 use Rattle.std.specs.List.{AllByRecursion}
 use Rattle.osi_base.specs.Link.{Link}
 use Rattle.osi_base.specs.Calls.{Call, Keeps}
-use Rattle.law_clnp_answers.specs.Standing.{is_nsap}
-use Rattle.law_clnp_answers.proofs.answered.Carrying.{nsap_passes}
+use Rattle.law_clnp_net.specs.Standing.{is_nsap}
+use Rattle.law_clnp_net.proofs.answered.Carrying.{nsap_passes}
 use Rattle.line_loop.specs.Lines.{most_lines}
 use Rattle.cltp.specs.Run.{Delivering, Sending, Settling, Ticking}
 use Rattle.cltp.specs.Systems.{World}

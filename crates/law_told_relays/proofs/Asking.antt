@@ -18,8 +18,8 @@ use Rattle.tp4_relay.specs.Allowed.{AreLine}
 use Rattle.tp4_relay.specs.Kept.{Kept, named_by, noted, row_for}
 use Rattle.tp4_relay.specs.Pairs.{is_closed}
 use Rattle.tp4_relay.specs.Reaction.{begins, confirms, goes, inbound_goes, inbound_pair, outbound_goes, outbound_pair, reaction, request_for}
-use Rattle.law_relay_run.proofs.Answering.{IsReadable, MayCall, RowInOctets, RowLeads, line_readable, row_found}
-use Rattle.law_relay_run.proofs.OctetSteps.{TellsOctets}
+use Rattle.law_relay.proofs.Answering.{IsReadable, MayCall, RowInOctets, RowLeads, line_readable, row_found}
+use Rattle.law_relay.proofs.OctetSteps.{TellsOctets}
 
 -- an event of a line: in octets, and of an end that was made
 pub record IsHeard (n : ℕ) (event : Event) : Type 0 where

@@ -5,7 +5,7 @@ use Rattle.std.specs.List.{AllByRecursion}
 use Rattle.osi_base.specs.Link.{Link}
 use Rattle.osi_base.specs.Calls.{Call, Keeps}
 use Rattle.law_carrier_answers.specs.Answers.{AreOctets, OneStep}
-use Rattle.law_clnp_answers.specs.Standing.{is_nsap}
+use Rattle.law_clnp_net.specs.Standing.{is_nsap}
 use Rattle.script_lines.specs.Tags.{Tags}
 use Rattle.script_lines.specs.declared.line.Line.{Line}
 use Rattle.script_lines.specs.declared.line.Line.TheVariants as lines
@@ -24,11 +24,11 @@ use Rattle.tp4_relay.proofs.Telling.{rows_stay, rules_stay}
 use Rattle.tp4_world.specs.Run.{Connects, RunsLine}
 use Rattle.tp4_world.specs.Total.{CanConnect, CanRun}
 use Rattle.tp4_world.specs.World.{World}
-use Rattle.law_relay_run.specs.Services.{AsksEnd, AsksFor}
-use Rattle.law_relay_run.proofs.Answering.{ArePairs, MayCall, RowInOctets, RowLeads, after_pairs}
-use Rattle.law_relay_run.proofs.OctetSteps.{HoldsOctets, TellsOctets, goes}
-use Rattle.law_relay_run.proofs.OneRun.{call_line, call_runs}
-use Rattle.law_relay_run.proofs.Walks.{after_append}
+use Rattle.law_relay.specs.Services.{AsksEnd, AsksFor}
+use Rattle.law_relay.proofs.Answering.{ArePairs, MayCall, RowInOctets, RowLeads, after_pairs}
+use Rattle.law_relay.proofs.OctetSteps.{HoldsOctets, TellsOctets, goes}
+use Rattle.law_relay.proofs.OneRun.{call_line, call_runs}
+use Rattle.law_relay.proofs.Walks.{after_append}
 use Rattle.law_told.proofs.Carriers.{Tells}
 use Rattle.law_told.proofs.Events.{EachFrom, each_both}
 use Rattle.law_told.proofs.Lines.{RunSo, line_told, ready}

@@ -3,7 +3,7 @@ use Rattle.std.proofs.Common.{◌≡◌, ◌<◌, ℕ, ◌+◌, true, List, leng
 use Rattle.osi_base.specs.Link.{Link}
 use Rattle.osi_base.specs.Calls.{Call, Keeps}
 use Rattle.line_loop.specs.Lines.{most_lines}
-use Rattle.law_clnp_answers.specs.Standing.{is_nsap}
+use Rattle.law_clnp_net.specs.Standing.{is_nsap}
 use Rattle.script_journal.specs.declared.event.Event.{Event}
 use Rattle.script_lines.specs.declared.words.Dialect.TheVariants as dialects
 use Rattle.script_lines.specs.declared.line.Line.{Line}
@@ -19,8 +19,8 @@ use Rattle.script_world.specs.Plays.{Going, PlayLaws, Playing, world_acts}
 use Rattle.script_world.specs.declared.play.World.{World as WorldOf}
 use Rattle.law_setup.proofs.Sending.{no_datagrams}
 use Rattle.tp4_world.specs.World.{World}
-use Rattle.law_relay_run.specs.Relays.{RelayRun, RunsRelays, StartsRelays, part_of, relay_play}
-use Rattle.law_relay_run.proofs.Played.{FitsRun, relay_going, relay_laws}
+use Rattle.law_relay.specs.Relays.{RelayRun, RunsRelays, StartsRelays, part_of, relay_play}
+use Rattle.law_relay.proofs.Played.{FitsRun, relay_going, relay_laws}
 use Rattle.law_told.specs.Reading.{IsLegible}
 use Rattle.law_told.proofs.Numbers.{line_number}
 use Rattle.law_told.proofs.Plays.{PartTold, PlayTells, play_legible}

@@ -6,7 +6,7 @@ use Rattle.std.specs.List.{AllByRecursion}
 use Rattle.osi_base.specs.Link.{Link}
 use Rattle.osi_base.specs.Calls.{Call, Keeps}
 use Rattle.law_carrier_answers.specs.Answers.{OneStep}
-use Rattle.law_clnp_answers.specs.Standing.{is_nsap}
+use Rattle.law_clnp_net.specs.Standing.{is_nsap}
 use Rattle.script_lines.specs.Commands.{HasLine}
 use Rattle.script_lines.specs.Tags.{Tags}
 use Rattle.script_lines.specs.declared.words.Dialect.TheVariants as dialects
@@ -35,13 +35,13 @@ use Rattle.tp4_relay.specs.Reaction.{reaction}
 use Rattle.tp4_world.specs.Run.{Settles}
 use Rattle.tp4_world.specs.Total.{CanRun}
 use Rattle.tp4_world.specs.World.{World}
-use Rattle.law_relay_run.specs.Asked.{is_relayed}
-use Rattle.law_relay_run.specs.Relays.{Answers, Asking, Idle, LastTurn, OneTurn, Part, PumpsAfter, RelayRun, RunsPart, Settling, Turns}
-use Rattle.law_relay_run.specs.Services.{AsksEnd, AsksFor}
-use Rattle.law_relay_run.proofs.Answering.{MayCall, PairInOctets, UnitInOctets, after_pairs, credit_low, unit_may, way_octets}
-use Rattle.law_relay_run.proofs.OctetSteps.{TellsOctets}
-use Rattle.law_relay_run.proofs.Playing.{Plays}
-use Rattle.law_relay_run.proofs.Running.{Leaves, answer_leaves, pumped, settles}
+use Rattle.law_relay.specs.Asked.{is_relayed}
+use Rattle.law_relay.specs.Relays.{Answers, Asking, Idle, LastTurn, OneTurn, Part, PumpsAfter, RelayRun, RunsPart, Settling, Turns}
+use Rattle.law_relay.specs.Services.{AsksEnd, AsksFor}
+use Rattle.law_relay.proofs.Answering.{MayCall, PairInOctets, UnitInOctets, after_pairs, credit_low, unit_may, way_octets}
+use Rattle.law_relay.proofs.OctetSteps.{TellsOctets}
+use Rattle.law_relay.proofs.Playing.{Plays}
+use Rattle.law_relay.proofs.Running.{Leaves, answer_leaves, pumped, settles}
 use Rattle.law_told.proofs.Carriers.{Tells}
 use Rattle.law_told.proofs.Events.{EachFrom, IsToldEvent, each_both, refusal_told}
 use Rattle.law_told.proofs.Worlds.{NamesSystems, later}

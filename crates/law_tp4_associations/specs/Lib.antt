@@ -1,4 +1,5 @@
 pub mod Association
+pub mod Ended
 pub mod Handing
 pub mod Laws
 pub mod Phase

@@ -7,9 +7,12 @@ ghost use Rattle.tp4_conn.specs.Table.{Took, stepped};
 ghost use Rattle.tp4_conn.specs.declared.timers.Timers.{Timers};
 ghost use Rattle.tp4_flow.specs.declared.step.Sent.{Sent};
 ghost use Rattle.tp4_number.specs.Number.{whole};
-ghost use Rattle.law_tp4_associations.specs.Laws.{Addressed, Answerable, Connected, Formatted, Handed, MayAccept, Ticks, WasCalled};
+ghost use Rattle.law_tp4_associations.specs.Laws.{Addressed, Answerable, Connected, Formatted, Handed, MayAccept, Ticks, WasCalled, AnswersEnded, CallsAnswerEnded, CallsTellWhatEnded, TellsWhatEnded};
 ghost use Rattle.law_tp4_associations.specs.Phase.{AreParting};
 ghost use Rattle.law_tp4_associations.specs.Ticking.{IsTicking};
+
+use nsap::Nsap;
+use osi_base::Carrier;
 
 /// Where one end has left, a TPDU that waits first for an end and that it takes leaves the two so: an end that is not frozen will be.
 pub fn parts()
@@ -46,4 +49,18 @@ pub fn calls()
 /// The clock goes on, each end that is due has its tick once, in any order, and where none is due any more the associations stand.
 pub fn ticks()
     ensures { (timers : Timers) (own : ℕ → List ℕ) → Ticks timers own (IsTicking timers own) }
+{}
+
+/// Whatever a carrier loses, repeats, delays and reorders, and whatever is injected: after lines of a network that began without an end, an end
+/// counts as ended exactly where its reference was free once since it was made, or its system began again since; and a line that calls it is
+/// answered by `wrongstate ended` then, and only then.
+pub fn ended<C: Carrier<Addr = Nsap>>()
+    ensures state { TellsWhatEnded C.link C.steps }
+    ensures answer { AnswersEnded C.link C.steps }
+{}
+
+/// The same after any calls of such a network, of a user who calls the end. A user of `TpWorld` has the calls from the clauses of its calls.
+pub fn over_calls<C: Carrier<Addr = Nsap>>()
+    ensures state { CallsTellWhatEnded C.link C.steps }
+    ensures answer { CallsAnswerEnded C.link C.steps }
 {}

@@ -4,4 +4,4 @@
 
 mod laws;
 
-pub use laws::{accepts, calls, connects, hands, parts, ticks};
+pub use laws::{accepts, calls, connects, ended, hands, over_calls, parts, ticks};

@@ -13,7 +13,7 @@ use Rattle.law_tp4_history.specs.Reached.{Reached, FlowInFormat}
 use Rattle.law_tp4_history.proofs.Sound.{at_end, Sound, one_partner}
 use Rattle.law_tp4_history.proofs.Later.{IsLater, caller_back, caller_on}
 use Rattle.law_tp4_history.proofs.Meets.{swap, Meets, Of_partner, Of_entity, meets}
-use Rattle.law_tp4_history.proofs.Begins.{with_new, new_later, here, there, alone}
+use Rattle.law_tp4_history.proofs.Begun.{with_new, new_later, here, there, alone}
 use Rattle.law_tp4_history.proofs.Steps.{sound_step, step_later, sound_start}
 
 -- a flow TPDU of x

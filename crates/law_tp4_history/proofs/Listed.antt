@@ -10,7 +10,7 @@ use Rattle.law_tp4_history.specs.Reached.{Reached}
 use Rattle.law_tp4_history.specs.Indications.{IsLatest, IsPartnerOf, AreIndications, IndicatesEach}
 use Rattle.law_tp4_history.proofs.Sound.{SentFacts, Sound}
 use Rattle.law_tp4_history.proofs.Later.{IsLater, caller_back}
-use Rattle.law_tp4_history.proofs.Begins.{with_new, new_later, here}
+use Rattle.law_tp4_history.proofs.Begun.{with_new, new_later, here}
 use Rattle.law_tp4_history.proofs.Steps.{sound_step, step_later, sound_start, all_sound}
 
 pub record Listed (h : History) : Type 0 where

@@ -13,7 +13,7 @@ use Rattle.law_tp4_history.proofs.Later.{Stops, EndLater, end_same, IsLater, unt
 use Rattle.law_tp4_history.specs.History.{Event, Other, History, nothing, IsPartner, IsAnswer, answers_to, ended, lost, Step, Tick, Connect, Indicate, Reply, Take, Act, Release, Restart, Note, May, next, Leads, event_of}
 use Rattle.law_tp4_history.specs.Reached.{Reached}
 use Rattle.law_tp4_history.proofs.Moves.{with_end, later, changed, move_later, acted, took_sound}
-use Rattle.law_tp4_history.proofs.Begins.{new_later, begun, indicates}
+use Rattle.law_tp4_history.proofs.Begun.{new_later, begun, indicates}
 
 -- the ends stay as they are
 abbrev pub with_rest : History → ℕ → List Offer → List Event → History

@@ -8,7 +8,7 @@ use Rattle.tp4_number.proofs.Past.{if_kept}
 use Rattle.tp4_number.proofs.Accounts.{none}
 use Rattle.tp4_number.specs.declared.piece.Piece.{Piece}
 use Rattle.tp4_number.specs.Number.{wire}
-use Rattle.tp4_number.specs.Traffic.{Rules, IsFit as IsLong, Answer, Tick as Ticks_on, Open, Send, Resend, Dt_comes, Grant, Acknowledge, Ak_comes}
+use Rattle.tp4_number.specs.Traffic.{Rules, Answer, Tick as Ticks_on, Open, Send, Resend, Dt_comes, Grant, Acknowledge, Ak_comes}
 use Rattle.tp4_number.specs.Expedited.{Urgent, Ticks, Sends_ed, Resends_ed, Ed_comes, Ea_comes, ed_taken, ea_taken}
 use Rattle.tp4_sending.specs.Pieces.{cut_at}
 use Rattle.law_tp4_history.specs.Ends.{Times, IsFit, Flow, Body, Plain, Dt, Ed, Ak, Ea, Sent, Offer, Birth, Terms, End}

@@ -16,7 +16,7 @@ use Rattle.law_tp4_history.specs.Units.{TellsNone, MayTell, MayTellAll, Saying}
 use Rattle.law_tp4_history.specs.Journals.{makes_end, MakesNone, Asks, Hears, MayMake, MayFollow, Writes, Written}
 use Rattle.law_tp4_history.proofs.Agreed.{Agreed, agreed_step, agreed_start}
 use Rattle.law_tp4_history.proofs.Appended.{submitted-append, shown-append}
-use Rattle.law_tp4_history.proofs.Begins.{here}
+use Rattle.law_tp4_history.proofs.Begun.{here}
 use Rattle.law_tp4_history.proofs.Later.{IsLater, partner_on}
 use Rattle.law_tp4_history.proofs.Lines.{lawful_front}
 use Rattle.law_tp4_history.proofs.Listed.{Listed, listed_step, listed_start}

@@ -1,10 +1,14 @@
+pub mod Begins
 pub mod Complete
 pub mod Ends
 pub mod History
 pub mod Indications
 pub mod Journals
 pub mod Line
+pub mod Lines
+pub mod Moves
 pub mod Reached
+pub mod Seen
 pub mod Tracks
 pub mod Units
 pub mod Worked

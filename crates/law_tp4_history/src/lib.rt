@@ -2,8 +2,11 @@
 //! that they write (X.224, class 4; X.214, queue model).
 #![tactic(auto)]
 
+mod flow_laws;
 mod laws;
 
+pub use flow_laws::{flowed, number_rule};
 pub use laws::{
-    indications, journal, journals_are_lawful, queues, references, units, worked_history,
+    begins, due_by_latest, indicates, indications, journal, journals_are_lawful, moved, queues,
+    references, sourced, times, units, worked_history,
 };

@@ -11,9 +11,9 @@ use Rattle.tp4_entity.specs.Entity.{Entity, end_at, moved}
 use Rattle.law_tp4_history.specs.Ends.{Offer, Terms, Times}
 use Rattle.law_tp4_history.specs.History.{History, IsPartner, IsTaken}
 use Rattle.law_tp4_history.specs.Tracks.{Whole}
-use Rattle.law_tp4_moves.specs.Lines.{IsKnownEvent}
-use Rattle.law_tp4_moves.specs.Moves.{IsSourced, times_of}
-use Rattle.law_tp4_moves.specs.Seen.{seen}
+use Rattle.law_tp4_history.specs.Lines.{IsKnownEvent}
+use Rattle.law_tp4_history.specs.Moves.{IsSourced, times_of}
+use Rattle.law_tp4_history.specs.Seen.{seen}
 use Rattle.tp4_world.specs.Telling.{call_events}
 use Rattle.tp4_world.specs.World.{entity_at}
 use Rattle.tp4_world.specs.declared.place.EndAt.{EndAt}

@@ -30,11 +30,11 @@ use Rattle.law_tp4_history.proofs.Agreed.{Stay, step_stay}
 use Rattle.law_tp4_history.proofs.Later.{IsLater, end_same}
 use Rattle.law_tp4_history.proofs.Steps.{step_later}
 use Rattle.law_tp4_history.proofs.Written.{Kept, written_kept, written_more}
-use Rattle.law_tp4_moves.specs.Lines.{IsKnownEvent, Stands, given, shown_in}
-use Rattle.law_tp4_moves.specs.Moves.{IsSeenIn, IsSourced, Moves, Sees, cause_of, times_of}
-use Rattle.law_tp4_moves.specs.Seen.{AreOffersOf, seen}
-use Rattle.law_tp4_moves.proofs.Beginnings.{fit_times}
-use Rattle.law_tp4_moves.proofs.Steps.{frozen_since, moved as end_moved, stays as end_stays}
+use Rattle.law_tp4_history.specs.Lines.{IsKnownEvent, Stands, given, shown_in}
+use Rattle.law_tp4_history.specs.Moves.{IsSeenIn, IsSourced, Moves, Sees, cause_of, times_of}
+use Rattle.law_tp4_history.specs.Seen.{AreOffersOf, seen}
+use Rattle.law_tp4_history.proofs.Beginnings.{fit_times}
+use Rattle.law_tp4_history.proofs.StepMoves.{frozen_since, moved as end_moved, stays as end_stays}
 use Rattle.tp4_world.specs.Telling.{ends_after, events_after}
 use Rattle.tp4_world.specs.World.{entity_at, latest, with_entity}
 use Rattle.tp4_world.specs.declared.place.EndAt.{EndAt}

@@ -27,9 +27,9 @@ use Rattle.law_tp4_history.specs.Units.{MayTell, TellsNone}
 use Rattle.law_tp4_history.proofs.Meets.{Meets, Of_entity, Of_partner, meets, swap}
 use Rattle.law_tp4_history.proofs.Sound.{Sound, one_partner}
 use Rattle.law_tp4_history.proofs.Tracked.{Tracked, not_begun}
-use Rattle.law_tp4_moves.specs.Lines.{AreOffered, ArePlain, AreSentIn, AreUntouched, Begun, Flowed, Going, IsIn, IsKnownEvent, IsKnownTpdu, IsSendingAt, IsTimely, LinesBegin, LinesGoOn, LinesStay, Stands, Still, given, shown_in}
-use Rattle.law_tp4_moves.specs.Moves.{AreOwn, IsAsked, IsSeenIn, Moves, Sees}
-use Rattle.law_tp4_moves.specs.Seen.{AreOffersOf, no_terms, seen, terms_of}
+use Rattle.law_tp4_history.specs.Lines.{AreOffered, ArePlain, AreSentIn, AreUntouched, Begun, Flowed, Going, IsIn, IsKnownEvent, IsKnownTpdu, IsSendingAt, IsTimely, LinesBegin, LinesGoOn, LinesStay, Stands, Still, given, shown_in}
+use Rattle.law_tp4_history.specs.Moves.{AreOwn, IsAsked, IsSeenIn, Moves, Sees}
+use Rattle.law_tp4_history.specs.Seen.{AreOffersOf, no_terms, seen, terms_of}
 use Rattle.law_tp4_lawful.proofs.Acting.{Comes}
 use Rattle.law_tp4_lawful.proofs.Known.{AreTerms, HasBegun, piece_by}
 use Rattle.law_tp4_rows.specs.Leaving.{HasHalves, IsUnagreed}

@@ -10,7 +10,7 @@ use Rattle.tp4_flow.specs.declared.step.What.TheVariants as whats
 use Rattle.tp4_conn.specs.declared.call.UserCall.TheVariants as calls
 use Rattle.tp4_conn.specs.Table.{Event, Called}
 use Rattle.law_tp4_history.specs.Journals.{makes_end, MakesNone}
-use Rattle.law_tp4_moves.specs.Lines.{given, shown_as, shown_in}
+use Rattle.law_tp4_history.specs.Lines.{given, shown_as, shown_in}
 use Rattle.tp4_world.specs.Telling.{ends_after, ends_with, event_for, events_after}
 use Rattle.tp4_world.specs.World.{latest}
 use Rattle.tp4_world.specs.declared.place.EndAt.{EndAt}

@@ -9,7 +9,7 @@ use Rattle.tp4_conn.specs.Table.{Event}
 use Rattle.law_tp4_history.specs.Journals.{makes_end, MakesNone}
 use Rattle.law_tp4_history.specs.Units.{TellsNone}
 use Rattle.law_tp4_history.proofs.Appended.{submitted-append, shown-append}
-use Rattle.law_tp4_moves.specs.Lines.{given, shown_in}
+use Rattle.law_tp4_history.specs.Lines.{given, shown_in}
 use Rattle.tp4_world.specs.Telling.{events_after}
 use Rattle.tp4_world.specs.World.{latest}
 use Rattle.tp4_world.specs.declared.place.EndAt.{EndAt}

@@ -28,7 +28,7 @@ use Rattle.law_tp4_history.specs.History.{History, Note, Tick, Restart}
 use Rattle.law_tp4_history.specs.Tracks.{Whole, Nothing, onward}
 use Rattle.law_tp4_history.specs.Journals.{IsAside}
 use Rattle.law_tp4_history.specs.Ends.{Offer}
-use Rattle.law_tp4_moves.specs.Moves.{times_of}
+use Rattle.law_tp4_history.specs.Moves.{times_of}
 use Rattle.tp4_world.specs.World.{World, entity_at, end_numbered, with_entity}
 use Rattle.tp4_world.specs.declared.place.Placed.{Placed}
 use Rattle.tp4_world.specs.Telling.{call_events, connect_event, ends_after, events_after}

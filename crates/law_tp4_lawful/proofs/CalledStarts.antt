@@ -11,7 +11,7 @@ use Rattle.tp4_conn.specs.declared.timers.Timers.{Timers}
 use Rattle.law_tp4_history.specs.Ends.{IsFit, Times}
 use Rattle.law_tp4_history.specs.Journals.{Written}
 use Rattle.law_tp4_history.specs.Tracks.{IsNothing, Whole}
-use Rattle.law_tp4_moves.specs.Moves.{times_of}
+use Rattle.law_tp4_history.specs.Moves.{times_of}
 use Rattle.tp4_world.specs.Laws.{WholeCalls}
 use Rattle.tp4_world.specs.First.{HasNoEnd}
 use Rattle.tp4_world.specs.Wire.{world_on_wire}

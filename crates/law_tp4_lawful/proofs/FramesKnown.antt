@@ -14,9 +14,9 @@ use Rattle.law_tp4_history.specs.Tracks.{Whole}
 use Rattle.law_tp4_history.proofs.Agreed.{Stay}
 use Rattle.law_tp4_history.proofs.Later.{IsLater}
 use Rattle.law_tp4_history.proofs.Written.{Kept, written_kept}
-use Rattle.law_tp4_moves.specs.Lines.{Stands}
-use Rattle.law_tp4_moves.specs.Moves.{Sees, times_of}
-use Rattle.law_tp4_moves.proofs.Beginnings.{fit_times}
+use Rattle.law_tp4_history.specs.Lines.{Stands}
+use Rattle.law_tp4_history.specs.Moves.{Sees, times_of}
+use Rattle.law_tp4_history.proofs.Beginnings.{fit_times}
 use Rattle.tp4_world.specs.World.{entity_at, is_at, latest, latest_from, with_entity}
 use Rattle.tp4_world.specs.declared.place.EndAt.{EndAt}
 use Rattle.tp4_world.specs.declared.place.Placed.{Placed}

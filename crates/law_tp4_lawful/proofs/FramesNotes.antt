@@ -10,8 +10,8 @@ use Rattle.law_tp4_history.specs.Tracks.{Nothing, Whole, onward}
 use Rattle.law_tp4_history.proofs.Agreed.{step_stay}
 use Rattle.law_tp4_history.proofs.Steps.{step_later}
 use Rattle.law_tp4_history.proofs.Written.{Kept, written_more}
-use Rattle.law_tp4_moves.specs.Moves.{times_of}
-use Rattle.law_tp4_moves.proofs.Beginnings.{fit_times}
+use Rattle.law_tp4_history.specs.Moves.{times_of}
+use Rattle.law_tp4_history.proofs.Beginnings.{fit_times}
 use Rattle.tp4_world.specs.declared.place.EndAt.{EndAt}
 use Rattle.tp4_world.specs.declared.place.Placed.{Placed}
 use Rattle.law_tp4_lawful.proofs.Known.{HaveBegun, IsKnown, Known}

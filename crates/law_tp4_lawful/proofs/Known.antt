@@ -19,9 +19,9 @@ use Rattle.law_tp4_history.specs.Ends.{Offer, Terms}
 use Rattle.law_tp4_history.specs.History.{History, IsCaller, IsFree, IsPartner}
 use Rattle.law_tp4_history.specs.Journals.{Written}
 use Rattle.law_tp4_history.specs.Tracks.{Track, Whole}
-use Rattle.law_tp4_moves.specs.Lines.{Stands}
-use Rattle.law_tp4_moves.specs.Moves.{Sees, times_of}
-use Rattle.law_tp4_moves.specs.Seen.{IsNumbered, seen}
+use Rattle.law_tp4_history.specs.Lines.{Stands}
+use Rattle.law_tp4_history.specs.Moves.{Sees, times_of}
+use Rattle.law_tp4_history.specs.Seen.{IsNumbered, seen}
 use Rattle.tp4_world.specs.World.{entity_at}
 use Rattle.tp4_world.specs.declared.place.EndAt.{EndAt}
 use Rattle.tp4_world.specs.declared.place.Placed.{Placed}

@@ -19,13 +19,13 @@ use Rattle.law_tp4_history.specs.Ends.{Offer, Sent as SentBy, End as Seen}
 use Rattle.law_tp4_history.specs.History.{History, Connect, IsNotSilent, IsPartner, May, event_of}
 use Rattle.law_tp4_history.specs.Journals.{MayFollow, Written}
 use Rattle.law_tp4_history.specs.Tracks.{Whole, Moment, Nothing, onward}
-use Rattle.law_tp4_history.proofs.Begins.{calls_none, here as here_is}
+use Rattle.law_tp4_history.proofs.Begun.{calls_none, here as here_is}
 use Rattle.law_tp4_history.proofs.Sound.{Sound}
 use Rattle.law_tp4_history.proofs.Written.{written_kept, written_more}
-use Rattle.law_tp4_moves.specs.Begins.{begun}
-use Rattle.law_tp4_moves.specs.Moves.{Sees, times_of}
-use Rattle.law_tp4_moves.specs.Seen.{seen}
-use Rattle.law_tp4_moves.proofs.Beginnings.{begins, begun_seen, fit_times, frozen_is}
+use Rattle.law_tp4_history.specs.Begins.{begun}
+use Rattle.law_tp4_history.specs.Moves.{Sees, times_of}
+use Rattle.law_tp4_history.specs.Seen.{seen}
+use Rattle.law_tp4_history.proofs.Beginnings.{begins, begun_seen, fit_times, frozen_is}
 use Rattle.tp4_world.specs.Telling.{connect_event}
 use Rattle.tp4_world.specs.World.{entity_at, with_entity}
 use Rattle.tp4_world.specs.declared.place.EndAt.{EndAt}

@@ -17,15 +17,15 @@ use Rattle.law_tp4_history.specs.History.{History, IsCaller, IsNew, IsPartner, E
 use Rattle.law_tp4_history.specs.Journals.{Written}
 use Rattle.law_tp4_history.specs.Tracks.{Track, Whole}
 use Rattle.law_tp4_history.proofs.Agreed.{Agreed}
-use Rattle.law_tp4_history.proofs.Begins.{with_new, new_later, here as here_is, there as there_is, calls_none}
+use Rattle.law_tp4_history.proofs.Begun.{with_new, new_later, here as here_is, there as there_is, calls_none}
 use Rattle.law_tp4_history.proofs.Later.{caller_back, caller_on}
 use Rattle.law_tp4_history.proofs.Sound.{Sound}
 use Rattle.law_tp4_history.proofs.Tracked.{Tracked, HasAgreed}
 use Rattle.law_tp4_history.proofs.Written.{written_kept}
-use Rattle.law_tp4_moves.specs.Lines.{Stands}
-use Rattle.law_tp4_moves.specs.Moves.{IsSeenIn, Sees, times_of}
-use Rattle.law_tp4_moves.specs.Seen.{terms_of}
-use Rattle.law_tp4_moves.proofs.Beginnings.{fit_times}
+use Rattle.law_tp4_history.specs.Lines.{Stands}
+use Rattle.law_tp4_history.specs.Moves.{IsSeenIn, Sees, times_of}
+use Rattle.law_tp4_history.specs.Seen.{terms_of}
+use Rattle.law_tp4_history.proofs.Beginnings.{fit_times}
 use Rattle.tp4_world.specs.World.{entity_at, with_entity}
 use Rattle.tp4_world.specs.declared.place.EndAt.{EndAt}
 use Rattle.tp4_world.specs.declared.place.Placed.{Placed}

@@ -16,9 +16,9 @@ use Rattle.law_tp4_history.specs.Journals.{IsAside, Written}
 use Rattle.law_tp4_history.specs.Tracks.{Whole, Nothing, Moment, onward}
 use Rattle.law_tp4_history.proofs.Sound.{at_end}
 use Rattle.law_tp4_history.proofs.Written.{written_more}
-use Rattle.law_tp4_moves.specs.Lines.{Stands}
-use Rattle.law_tp4_moves.specs.Moves.{Sees, stop_of, times_of}
-use Rattle.law_tp4_moves.proofs.Beginnings.{frozen_is}
+use Rattle.law_tp4_history.specs.Lines.{Stands}
+use Rattle.law_tp4_history.specs.Moves.{Sees, stop_of, times_of}
+use Rattle.law_tp4_history.proofs.Beginnings.{frozen_is}
 use Rattle.tp4_world.specs.World.{entity_at}
 use Rattle.tp4_world.specs.declared.place.EndAt.{EndAt}
 use Rattle.tp4_world.specs.declared.place.Placed.{Placed}

@@ -17,8 +17,8 @@ use Rattle.law_tp4_history.specs.History.{Event as Kept, IsAnswer, IsCaller, IsP
 use Rattle.law_tp4_history.specs.Journals.{IsAside, Written}
 use Rattle.law_tp4_history.specs.Tracks.{Nothing, Whole, onward}
 use Rattle.law_tp4_history.proofs.Written.{written_more}
-use Rattle.law_tp4_moves.specs.Moves.{times_of}
-use Rattle.law_tp4_moves.specs.Seen.{IsNumbered, seen}
+use Rattle.law_tp4_history.specs.Moves.{times_of}
+use Rattle.law_tp4_history.specs.Seen.{IsNumbered, seen}
 use Rattle.tp4_world.specs.Telling.{ends_after, events_after}
 use Rattle.tp4_world.specs.World.{entity_at, is_of, with_entity}
 use Rattle.tp4_world.specs.declared.place.EndAt.{EndAt}

@@ -36,11 +36,11 @@ use Rattle.law_tp4_history.proofs.Sound.{Sound, one_partner}
 use Rattle.law_tp4_history.proofs.Taken.{taken_from}
 use Rattle.law_tp4_history.proofs.Tracked.{Tracked, all_told, reached_base}
 use Rattle.law_tp4_history.proofs.Written.{Kept, written_kept, written_reached}
-use Rattle.law_tp4_moves.specs.Lines.{IsKnownEvent}
-use Rattle.law_tp4_moves.specs.Moves.{times_of}
-use Rattle.law_tp4_moves.specs.Seen.{IsNumbered, seen}
-use Rattle.law_tp4_moves.proofs.Beginnings.{fit_times}
-use Rattle.law_tp4_moves.proofs.Sources.{read_sourced}
+use Rattle.law_tp4_history.specs.Lines.{IsKnownEvent}
+use Rattle.law_tp4_history.specs.Moves.{times_of}
+use Rattle.law_tp4_history.specs.Seen.{IsNumbered, seen}
+use Rattle.law_tp4_history.proofs.Beginnings.{fit_times}
+use Rattle.law_tp4_history.proofs.Sources.{read_sourced}
 use Rattle.tp4_world.specs.Telling.{events_after}
 use Rattle.tp4_world.specs.World.{entity_at}
 use Rattle.tp4_world.specs.declared.place.EndAt.{EndAt}

@@ -31,11 +31,11 @@ use Rattle.law_tp4_history.specs.Tracks.{Moment, Nothing, Whole, onward}
 use Rattle.law_tp4_history.proofs.Sound.{Sound}
 use Rattle.law_tp4_history.proofs.Tracked.{reached_base}
 use Rattle.law_tp4_history.proofs.Written.{written_kept, written_more, written_reached}
-use Rattle.law_tp4_moves.specs.Begins.{HasNoEnd, indicated_by}
-use Rattle.law_tp4_moves.specs.Moves.{Sees, times_of}
-use Rattle.law_tp4_moves.specs.Seen.{seen}
-use Rattle.law_tp4_moves.proofs.Beginnings.{fit_times, indicates}
-use Rattle.law_tp4_moves.proofs.Sources.{requests_sourced}
+use Rattle.law_tp4_history.specs.Begins.{HasNoEnd, indicated_by}
+use Rattle.law_tp4_history.specs.Moves.{Sees, times_of}
+use Rattle.law_tp4_history.specs.Seen.{seen}
+use Rattle.law_tp4_history.proofs.Beginnings.{fit_times, indicates}
+use Rattle.law_tp4_history.proofs.Sources.{requests_sourced}
 use Rattle.tp4_world.specs.Telling.{events_after}
 use Rattle.tp4_world.specs.World.{entity_at, latest, with_entity}
 use Rattle.tp4_world.specs.declared.place.EndAt.{EndAt}

@@ -15,9 +15,9 @@ use Rattle.law_tp4_history.specs.Ends.{Birth, Terms, Times}
 use Rattle.law_tp4_history.specs.History.{IsPartner}
 use Rattle.law_tp4_history.specs.Tracks.{Track, Whole}
 use Rattle.law_tp4_history.proofs.Written.{Kept}
-use Rattle.law_tp4_moves.specs.Lines.{AreHalvesAt, Stands}
-use Rattle.law_tp4_moves.specs.Moves.{AreOwn, IsSeenIn, times_of}
-use Rattle.law_tp4_moves.specs.Seen.{terms_of}
+use Rattle.law_tp4_history.specs.Lines.{AreHalvesAt, Stands}
+use Rattle.law_tp4_history.specs.Moves.{AreOwn, IsSeenIn, times_of}
+use Rattle.law_tp4_history.specs.Seen.{terms_of}
 use Rattle.tp4_world.specs.World.{World}
 use Rattle.law_tp4_lawful.specs.References.{IsEnd, halves_at}
 use Rattle.law_tp4_lawful.proofs.Known.{AreTerms, IsKnown, IsThere}

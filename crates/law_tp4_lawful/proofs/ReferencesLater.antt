@@ -27,7 +27,7 @@ use Rattle.law_tp4_history.proofs.Meets.{aimed_bound, answer_bound}
 use Rattle.law_tp4_history.proofs.Places.{asking, incoming, get_left}
 use Rattle.law_tp4_history.proofs.Sound.{Until, one_partner, partner_low}
 use Rattle.law_tp4_history.proofs.Written.{Kept}
-use Rattle.law_tp4_moves.specs.Moves.{times_of}
+use Rattle.law_tp4_history.specs.Moves.{times_of}
 use Rattle.tp4_world.proofs.Lined.{all_did_back}
 use Rattle.tp4_world.specs.Called.{Did, DidAll, KeepsLimits, WorldCall}
 use Rattle.tp4_world.specs.World.{World}

@@ -20,8 +20,8 @@ use Rattle.law_tp4_history.proofs.Meets.{meets_own}
 use Rattle.law_tp4_history.proofs.Places.{are_called, are_ends}
 use Rattle.law_tp4_history.proofs.Taken.{taken_noted}
 use Rattle.law_tp4_history.proofs.Written.{Kept}
-use Rattle.law_tp4_moves.specs.Moves.{times_of}
-use Rattle.law_tp4_moves.specs.Seen.{IsNumbered, seen}
+use Rattle.law_tp4_history.specs.Moves.{times_of}
+use Rattle.law_tp4_history.specs.Seen.{IsNumbered, seen}
 use Rattle.tp4_world.specs.World.{World, end_numbered}
 use Rattle.tp4_world.specs.declared.place.EndAt.{EndAt}
 use Rattle.law_tp4_lawful.specs.References.{Carries, ComesTo, HasPartnerAt, IsAnswer}

@@ -18,8 +18,8 @@ use Rattle.law_tp4_history.specs.History.{IsPartner}
 use Rattle.law_tp4_history.specs.Tracks.{Whole}
 use Rattle.law_tp4_history.proofs.Agreed.{in_format}
 use Rattle.law_tp4_history.proofs.Written.{Kept}
-use Rattle.law_tp4_moves.specs.Moves.{times_of}
-use Rattle.law_tp4_moves.specs.Seen.{terms_of}
+use Rattle.law_tp4_history.specs.Moves.{times_of}
+use Rattle.law_tp4_history.specs.Seen.{terms_of}
 use Rattle.tp4_world.specs.World.{World}
 use Rattle.law_tp4_lawful.specs.References.{AreSizes, ComesTo, piece_of}
 use Rattle.law_tp4_lawful.proofs.Known.{IsKnown, piece_by}

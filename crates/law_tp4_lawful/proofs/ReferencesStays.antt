@@ -26,7 +26,7 @@ use Rattle.tp4_entity.proofs.Beginning.{audible, short}
 use Rattle.law_tp4_history.specs.Ends.{Offer}
 use Rattle.law_tp4_history.specs.History.{Tick as HistoryTick}
 use Rattle.law_tp4_history.specs.Tracks.{Nothing, Whole, onward}
-use Rattle.law_tp4_moves.specs.Moves.{times_of}
+use Rattle.law_tp4_history.specs.Moves.{times_of}
 use Rattle.tp4_world.proofs.Lined.{injected, not_taken}
 use Rattle.tp4_world.specs.Called.{Did, KeepsLimits, WorldCall}
 use Rattle.tp4_world.specs.Called as requests

@@ -9,7 +9,7 @@ use Rattle.tp4_conn.specs.declared.timers.Timers.{Timers}
 use Rattle.tp4_entity.specs.Entity.{Acted}
 use Rattle.law_tp4_history.specs.History.{Note}
 use Rattle.law_tp4_history.specs.Tracks.{Nothing, Whole, onward}
-use Rattle.law_tp4_moves.specs.Moves.{times_of}
+use Rattle.law_tp4_history.specs.Moves.{times_of}
 use Rattle.tp4_world.specs.Run.{Acts}
 use Rattle.tp4_world.specs.Telling.{ends_after, events_after}
 use Rattle.tp4_world.specs.World.{World, with_entity}

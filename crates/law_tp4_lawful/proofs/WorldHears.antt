@@ -31,7 +31,7 @@ use Rattle.tp4_entity.specs.Unit.{HearsUnit, all_met, extended_of, ignored, Take
 use Rattle.law_tp4_history.specs.History.{Note}
 use Rattle.law_tp4_history.specs.Journals.{IsAside}
 use Rattle.law_tp4_history.specs.Tracks.{Nothing, Whole, onward}
-use Rattle.law_tp4_moves.specs.Moves.{times_of}
+use Rattle.law_tp4_history.specs.Moves.{times_of}
 use Rattle.tp4_world.specs.Run.{Acts, Delivers, HearsAll, HearsIf, Injects, is_for}
 use Rattle.tp4_world.specs.Telling.{ends_after, events_after, inject_event}
 use Rattle.tp4_world.specs.World.{World, entity_at, with_entity}

@@ -16,9 +16,9 @@ use Rattle.law_tp4_history.specs.Journals.{Written}
 use Rattle.law_tp4_history.specs.Tracks.{Nothing, Track, Whole, clocked, onward}
 use Rattle.law_tp4_history.proofs.Later.{end_same}
 use Rattle.law_tp4_history.proofs.Written.{written_more}
-use Rattle.law_tp4_moves.specs.Lines.{Stands}
-use Rattle.law_tp4_moves.specs.Moves.{Sees, times_of}
-use Rattle.law_tp4_moves.proofs.Steps.{before_latest, passed}
+use Rattle.law_tp4_history.specs.Lines.{Stands}
+use Rattle.law_tp4_history.specs.Moves.{Sees, times_of}
+use Rattle.law_tp4_history.proofs.StepMoves.{before_latest, passed}
 use Rattle.law_tp4_proper.proofs.Ends.{waits}
 use Rattle.tp4_world.specs.World.{entity_at}
 use Rattle.tp4_world.specs.declared.place.EndAt.{EndAt}

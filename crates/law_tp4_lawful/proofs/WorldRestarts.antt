@@ -18,7 +18,7 @@ use Rattle.law_tp4_history.specs.History.{IsFree, Restart}
 use Rattle.law_tp4_history.specs.Journals.{Written}
 use Rattle.law_tp4_history.specs.Tracks.{Whole, Nothing, Moment, onward}
 use Rattle.law_tp4_history.proofs.Written.{written_more}
-use Rattle.law_tp4_moves.specs.Moves.{times_of}
+use Rattle.law_tp4_history.specs.Moves.{times_of}
 use Rattle.tp4_world.specs.Run.{Restarts}
 use Rattle.tp4_world.specs.World.{World, entity_at, with_entity}
 use Rattle.tp4_world.specs.declared.place.EndAt.{EndAt}

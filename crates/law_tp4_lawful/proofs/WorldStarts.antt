@@ -19,7 +19,7 @@ use Rattle.law_tp4_history.specs.History.{nothing}
 use Rattle.law_tp4_history.specs.Journals.{Written}
 use Rattle.law_tp4_history.specs.Line.{empty}
 use Rattle.law_tp4_history.specs.Tracks.{IsNothing, Track, Whole}
-use Rattle.law_tp4_moves.specs.Moves.{times_of}
+use Rattle.law_tp4_history.specs.Moves.{times_of}
 use Rattle.tp4_world.specs.First.{HasNoEnd, IsFirst, IsNew}
 use Rattle.tp4_world.specs.Run.{Starts, transport_address}
 use Rattle.tp4_world.specs.World.{World, entity_at, is_of}

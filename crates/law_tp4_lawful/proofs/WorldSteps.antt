@@ -25,8 +25,8 @@ use Rattle.law_tp4_history.specs.Tracks.{Nothing, Whole, onward}
 use Rattle.law_tp4_history.proofs.Agreed.{step_stay}
 use Rattle.law_tp4_history.proofs.Steps.{step_later}
 use Rattle.law_tp4_history.proofs.Written.{written_more}
-use Rattle.law_tp4_moves.specs.Moves.{stop_of, times_of}
-use Rattle.law_tp4_moves.proofs.Beginnings.{fit_times, frozen_is}
+use Rattle.law_tp4_history.specs.Moves.{stop_of, times_of}
+use Rattle.law_tp4_history.proofs.Beginnings.{fit_times, frozen_is}
 use Rattle.tp4_world.specs.Telling.{call_events}
 use Rattle.tp4_world.specs.World.{entity_at, latest, with_entity}
 use Rattle.tp4_world.specs.declared.place.EndAt.{EndAt}

@@ -15,7 +15,7 @@ use Rattle.tp4_entity.specs.Entity.{Entity, at}
 use Rattle.tp4_entity.specs.Step.{first_due, ticking, ticking_at}
 use Rattle.law_tp4_history.specs.History.{Tick as HistoryTick}
 use Rattle.law_tp4_history.specs.Tracks.{Nothing, Whole, onward}
-use Rattle.law_tp4_moves.specs.Moves.{times_of}
+use Rattle.law_tp4_history.specs.Moves.{times_of}
 use Rattle.tp4_world.specs.Run.{Acts, NoneDue, OneDue, Ticks, TicksAll, TicksEntity, clock_of}
 use Rattle.tp4_world.specs.World.{World, entity_at, is_of, with_entity}
 use Rattle.tp4_world.specs.declared.place.Placed.{Placed}

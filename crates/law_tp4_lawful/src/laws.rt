@@ -25,8 +25,8 @@ pub fn over_calls<C: Carrier<Addr = Nsap>>()
 {
     tp4_world::whole_calls::<C>();
     law_tp4_history::journals_are_lawful();
-    law_tp4_moves::times();
-    law_tp4_moves::flowed();
+    law_tp4_history::times();
+    law_tp4_history::flowed();
 }
 
 /// A system whose transport entity began again tells nothing of the ends that it had, and makes none for as long as references are frozen;
@@ -65,5 +65,5 @@ pub fn numbers<C: Carrier<Addr = Nsap>>()
 {
     over_calls::<C>();
     law_tp4_history::journals_are_lawful();
-    law_tp4_moves::flowed();
+    law_tp4_history::flowed();
 }

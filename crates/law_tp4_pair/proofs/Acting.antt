@@ -13,7 +13,7 @@ use Rattle.script_journal.specs.Lawful.{Marked, normals}
 use Rattle.tp4_flow.specs.declared.step.EndEvent.{EndEvent}
 use Rattle.tp4_number.specs.declared.piece.Piece.{Piece}
 use Rattle.law_tp4_history.specs.Complete.{AllFull}
-use Rattle.law_tp4_moves.specs.Lines.{shown_in}
+use Rattle.law_tp4_history.specs.Lines.{shown_in}
 use Rattle.law_tp4_pair.specs.Pair.{Account}
 use Rattle.law_tp4_pair.specs.Carrying.{Carries, pieces_in, units_in}
 use Rattle.law_tp4_pair.proofs.Carried.{no_pieces, no_units, pieces_count, pieces_then, units_count, units_then}

@@ -11,7 +11,7 @@ use Rattle.tp4_sending.specs.SendingHalf.{FlowSender, block_in, is_outstanding, 
 use Rattle.tp4_sending.specs.declared.tries.Tries.{Tries}
 use Rattle.tp4_number.specs.declared.piece.Piece.{Piece}
 use Rattle.script_journal.specs.Lawful.{Marked}
-use Rattle.law_tp4_moves.specs.Lines.{shown_in}
+use Rattle.law_tp4_history.specs.Lines.{shown_in}
 use Rattle.law_tp4_pair.specs.Carrying.{Carries}
 use Rattle.law_tp4_pair.proofs.Carried.{done_carry, ed_carry, empty_by}
 use Rattle.law_tp4_pair.specs.Waiting.{AreData, View, dts_in, eds_in, aks_in, eas_in}

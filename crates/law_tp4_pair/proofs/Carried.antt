@@ -21,8 +21,8 @@ use Rattle.tp4_sending.specs.SendingHalf.{FlowSender, UrgentSender, Sendings, no
 use Rattle.tp4_sending.specs.Pieces.{Queue, count_in, cut_at, end_of, once, freed}
 use Rattle.tp4_sending.specs.declared.tries.Tries.{Tries}
 use Rattle.tp4_sending.proofs.Goings.{piece_there}
-use Rattle.law_tp4_moves.specs.Lines.{shown_in}
-use Rattle.law_tp4_moves.proofs.FlowUnits.{cut_behind, freed_front}
+use Rattle.law_tp4_history.specs.Lines.{shown_in}
+use Rattle.law_tp4_history.proofs.FlowUnits.{cut_behind, freed_front}
 use Rattle.law_tp4_history.specs.Complete.{AllFull, Complete}
 use Rattle.law_tp4_history.proofs.Complete.{complete_more, cut_more, full_more, one_piece, shown_on}
 use Rattle.law_tp4_history.proofs.Marks.{normals-append, expediteds-append}

@@ -14,7 +14,7 @@ use Rattle.tp4_conn.specs.End.{Moved, stays}
 use Rattle.tp4_conn.specs.Opened.{opened_as, opened_goes, opened_tick}
 use Rattle.script_journal.specs.Lawful.{Marked}
 use Rattle.tp4_flow.specs.declared.step.EndEvent.{EndEvent}
-use Rattle.law_tp4_moves.specs.Lines.{shown_in}
+use Rattle.law_tp4_history.specs.Lines.{shown_in}
 use Rattle.law_tp4_pair.specs.Pair.{Account}
 use Rattle.law_tp4_pair.specs.Carrying.{Carries, pieces_in, units_in}
 use Rattle.law_tp4_pair.proofs.Carried.{pieces_then, units_then}

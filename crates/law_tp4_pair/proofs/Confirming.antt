@@ -31,7 +31,7 @@ use Rattle.tp4_conn.specs.Opened.{opened_tpdu}
 use Rattle.tp4_conn.specs.Table.{at as now_at, on_tpdu, takes, untaken}
 use Rattle.tp4_conn.specs.UserWait.{user_wait_accept}
 use Rattle.tp4_conn.specs.declared.call.UserCall.TheVariants.{Accept}
-use Rattle.law_tp4_moves.specs.Lines.{shown_in}
+use Rattle.law_tp4_history.specs.Lines.{shown_in}
 use Rattle.tpdu.specs.declared.tpdu.Tpdu.{Tpdu}
 use Rattle.tp4_entity.specs.Association.{answers as answers_of, calls, is_called, is_registered, met, new_end, refusal}
 use Rattle.tp4_entity.specs.Entity.{Entity, moved}

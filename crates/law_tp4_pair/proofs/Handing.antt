@@ -19,7 +19,7 @@ use Rattle.tp4_conn.specs.Matching.{sum_agreed}
 use Rattle.tp4_conn.specs.Opened.{hearing, sending, receiving, acking, dt_as, is_expedited, opened_tpdu, protocol_error}
 use Rattle.tp4_conn.specs.Table.{at as now_at, takes, untaken, on_tpdu}
 use Rattle.script_journal.specs.Lawful.{Marked}
-use Rattle.law_tp4_moves.specs.Lines.{shown_in}
+use Rattle.law_tp4_history.specs.Lines.{shown_in}
 use Rattle.law_tp4_pair.specs.Pair.{Account}
 use Rattle.law_tp4_pair.specs.Carrying.{pieces_in, units_in}
 use Rattle.law_tp4_pair.proofs.Carried.{units_count}

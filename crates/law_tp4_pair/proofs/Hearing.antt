@@ -18,7 +18,7 @@ use Rattle.tp4_sending.proofs.Settles.{new_settled}
 use Rattle.tp4_number.specs.declared.piece.Piece.{Piece}
 use Rattle.script_journal.specs.Lawful.{Marked, normals}
 use Rattle.law_tp4_history.specs.Complete.{AllFull}
-use Rattle.law_tp4_moves.specs.Lines.{shown_in}
+use Rattle.law_tp4_history.specs.Lines.{shown_in}
 use Rattle.law_tp4_pair.specs.Carrying.{Carries, pieces_in, units_in}
 use Rattle.law_tp4_pair.proofs.Carried.{carries_at, empty_by, freed_carry, sends_carry, wires_count}
 use Rattle.law_tp4_pair.specs.Waiting.{AreData, View, dts_in, eds_in, aks_in, eas_in, views}

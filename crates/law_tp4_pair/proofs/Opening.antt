@@ -27,7 +27,7 @@ use Rattle.tp4_conn.specs.Matching.{wants_sum}
 use Rattle.tp4_conn.specs.Opened.{opened_tpdu}
 use Rattle.tp4_conn.specs.Table.{at as now_at, on_tpdu, takes, untaken}
 use Rattle.tpdu.specs.declared.service.GoneCause.TheVariants.{Protocol}
-use Rattle.law_tp4_moves.specs.Lines.{shown_in}
+use Rattle.law_tp4_history.specs.Lines.{shown_in}
 use Rattle.law_tp4_pair.specs.Pair.{Account}
 use Rattle.law_tp4_pair.proofs.Carried.{fresh_carries}
 use Rattle.law_tp4_pair.specs.Waiting.{aks_in}

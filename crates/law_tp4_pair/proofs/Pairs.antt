@@ -15,7 +15,7 @@ use Rattle.tp4_conn.specs.End.{End, Moved, stays}
 use Rattle.tp4_conn.specs.Table.{Called, Took, Ticked, at, on_call, on_tick, stepped, takes}
 use Rattle.script_journal.specs.Lawful.{Marked}
 use Rattle.tp4_conn.specs.Calls.{call_refusal}
-use Rattle.law_tp4_moves.specs.Lines.{given, shown_in}
+use Rattle.law_tp4_history.specs.Lines.{given, shown_in}
 use Rattle.law_tp4_pair.specs.Pair.{Account, Asks_called, Asks_calling, Clock, Comes_back, Comes_forth, Happening, IsIdle, IsNew, Leads, May, Pair, asks_called, asks_calling, back_units, clocked, comes_back, comes_forth, forth_units, next, tick_of}
 use Rattle.law_tp4_pair.specs.Standing.{HasLeft, AreBoth, IsConfirming, IsFirst, Stands, Left, Confirming, First, Both, party}
 use Rattle.law_tp4_pair.proofs.Acting.{Continues, turned}

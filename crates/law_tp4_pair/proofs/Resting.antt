@@ -7,7 +7,7 @@ use Rattle.std.proofs.lemmas.Bool.{ltb-false, eqb-true}
 use Rattle.tp4_flow.specs.ReceivingHalf.{Half}
 use Rattle.tpdu.specs.declared.service.Options.{Options}
 use Rattle.tp4_sending.specs.SendingHalf.{FlowSender}
-use Rattle.tp4_sending.specs.Pieces.{count_in, end_of}
+use Rattle.tp4_sending.specs.Pieces.{count_in, end_of, once}
 use Rattle.tp4_sending.specs.Settled.{IsSettled, waits_normal}
 use Rattle.tp4_sending.specs.declared.tries.Tries.{Tries}
 use Rattle.tp4_conn.specs.declared.call.UserCall.TheVariants.{Accept}
@@ -20,8 +20,7 @@ use Rattle.tp4_conn.specs.Agreeing.{agreed_by, confirm, halves_of}
 use Rattle.tp4_conn.proofs.Sizes.{agreed_sized}
 use Rattle.tp4_conn.specs.End.{IsProposal, IsSized, Moved, end_of as end_of_row}
 use Rattle.tp4_flow.specs.declared.step.Sent.{Sent}
-use Rattle.tp4_sending.specs.Pieces.{once}
-use Rattle.law_tp4_moves.specs.Lines.{given, shown_in}
+use Rattle.law_tp4_history.specs.Lines.{given, shown_in}
 use Rattle.tp4_conn.specs.Table.{Called, at, on_call}
 use Rattle.tp4_conn.specs.UserWait.{user_wait_accept}
 use Rattle.script_journal.specs.Lawful.{expediteds, normals}

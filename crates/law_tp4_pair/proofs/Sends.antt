@@ -17,8 +17,8 @@ use Rattle.tp4_sending.specs.Pieces.{cut_at, end_of, once}
 use Rattle.tp4_sending.specs.declared.tries.Tries.{Tries}
 use Rattle.tp4_sending.proofs.Goings.{piece_there}
 use Rattle.script_journal.specs.Lawful.{Marked}
-use Rattle.law_tp4_moves.proofs.FlowOut.{shown-append}
-use Rattle.law_tp4_moves.specs.Lines.{shown_in}
+use Rattle.law_tp4_history.proofs.FlowOut.{shown-append}
+use Rattle.law_tp4_history.specs.Lines.{shown_in}
 use Rattle.law_tp4_pair.specs.Waiting.{AreData, View, dts_in, eds_in, aks_in, eas_in, wires}
 use Rattle.law_tp4_pair.specs.Flowing.{IsOrdered}
 use Rattle.law_tp4_pair.proofs.Wires.{dts_then, eds_then, aks_then, eas_then, data_then}

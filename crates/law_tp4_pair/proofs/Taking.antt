@@ -14,7 +14,7 @@ use Rattle.tp4_number.specs.Window.{Held, Joined, joined, joined_by, begun_by, i
 use Rattle.tp4_number.proofs.Numbers.{near_is}
 use Rattle.tp4_sending.specs.SendingHalf.{FlowSender, block_in}
 use Rattle.script_journal.specs.Lawful.{Marked}
-use Rattle.law_tp4_moves.specs.Lines.{shown_in}
+use Rattle.law_tp4_history.specs.Lines.{shown_in}
 use Rattle.law_tp4_pair.specs.Carrying.{Carries}
 use Rattle.law_tp4_pair.proofs.Carried.{dt_carry}
 use Rattle.law_tp4_pair.specs.Waiting.{AreData, View, dts_in, eds_in, aks_in, eas_in, wires, views}

@@ -19,7 +19,7 @@ use Rattle.tp4_flow.specs.declared.rules.SubmitRefusal.{SubmitRefusal}
 use Rattle.tp4_flow.specs.declared.rules.SubmitRefusal.TheVariants.{EmptyUnit}
 use Rattle.tp4_conn.specs.Calls.{call_refusal, unit_refusal}
 use Rattle.law_tp4_history.specs.Complete.{AllFull}
-use Rattle.law_tp4_moves.specs.Lines.{given}
+use Rattle.law_tp4_history.specs.Lines.{given}
 use Rattle.law_tp4_pair.specs.Pair.{Account}
 use Rattle.law_tp4_pair.specs.Carrying.{Carries}
 use Rattle.law_tp4_pair.proofs.Carried.{half_carry}

@@ -13,7 +13,7 @@ use Rattle.tpdu.specs.declared.service.Options.{Options}
 use Rattle.tp4_conn.specs.Calls.{call_refusal}
 use Rattle.tp4_conn.specs.End.{End, IsProposal, IsSized, Moved, end_of, stays}
 use Rattle.tp4_conn.specs.Table.{Called, Took, Ticked, stepped}
-use Rattle.law_tp4_moves.specs.Lines.{given, shown_in}
+use Rattle.law_tp4_history.specs.Lines.{given, shown_in}
 
 pub record Pair : Type 0 where
   pub clock : ℕ

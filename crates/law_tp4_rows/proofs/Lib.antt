@@ -1,2 +1,4 @@
+pub mod Giving
+pub mod GivingRows
 pub mod Leaving
 pub mod RowsWithout

@@ -3,4 +3,4 @@
 
 mod laws;
 
-pub use laws::leaves;
+pub use laws::{gives, leaves};

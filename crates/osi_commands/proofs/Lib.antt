@@ -1,4 +1,3 @@
 pub mod Carrying
-pub mod EachCommand
 pub mod InMemory
 pub mod StormWords

@@ -1,4 +1,3 @@
 pub mod Commands
-pub mod EachCommand
 pub mod Text
 pub mod steps

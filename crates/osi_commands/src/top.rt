@@ -12,12 +12,11 @@ ghost use Rattle.osi_commands.specs.steps.Naming.{IsShort};
 use crate::command::Command;
 use capture_decode::decode;
 use law_recovery_scripts::{outages_are_kept, scripts_recover};
-use law_run::{NetWorld, calm_scripts_are_served, ends_are_lawful, systems_are_silent};
+use law_run::{calm_scripts_are_served, ends_are_lawful, run_network, systems_are_silent};
 use line_loop::write_last;
 use osi_base::{Bytes, NoMemory, PlainSink, PlainSource, Sink, Source, Status};
 use osi_kinds::run_kind;
 use osi_storm::{generated_scripts_are_lawful, write_storm};
-use script_bench::run_script;
 use script_frames::write_capture;
 use std::alloc::Global;
 
@@ -82,7 +81,7 @@ fn carry_out<S: Source, K: Sink>(
             calm_scripts_are_served();
             scripts_recover();
             outages_are_kept();
-            run_script::<NetWorld, S, K>(alloc, source, sink)
+            run_network(alloc, source, sink)
         }
         Command::Frames => write_capture(alloc, source, sink),
         Command::Decode => decode(alloc, source, sink),

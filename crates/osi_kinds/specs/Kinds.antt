@@ -1,7 +1,6 @@
 -- The commands that read a script, beside `run`: their names, what each runs, and what is claimed of every run.
 use Rattle.std.specs.Prelude.{ℕ, List, codes}
 use Rattle.osi_base.specs.declared.status.Status.{Status}
-use Rattle.line_loop.specs.Laws.{AsksOne, AsksSomething}
 use Rattle.line_loop.specs.Outcome.{IsAccepted, AsksFor}
 use Rattle.lan_step.specs.Bag.{Bag}
 use Rattle.inactive_step.specs.Network.{Inactive}
@@ -20,7 +19,7 @@ use Rattle.script_world.specs.declared.play.World.{World}
 use Rattle.script_datagrams.specs.Claims.{TellsDatagrams}
 use Rattle.law_datagram_run.specs.Datagrams.{DatagramRun, cl_play}
 use Rattle.script_relays.specs.Giving.{TellsRelays}
-use Rattle.law_relay_run.specs.Relays.{RelayRun, relay_play}
+use Rattle.law_relay.specs.Relays.{RelayRun, relay_play}
 use Rattle.osi_kinds.specs.declared.kinds.Kind.{Kind}
 use Rattle.osi_kinds.specs.declared.kinds.Kind.TheVariants as kinds
 
@@ -71,13 +70,3 @@ abbrev pub IsAcceptedBy : Kind → List ℕ → Type 0
 IsAcceptedBy kinds.Datagrams all = IsAccepted (bench_meaning datagram_acts) (first_bench datagram_acts) all
 IsAcceptedBy kinds.Inactive all = IsAccepted (bench_meaning inactive_acts) (first_bench inactive_acts) all
 IsAcceptedBy kinds.Relay all = IsAccepted (bench_meaning relay_acts) (first_bench relay_acts) all
-
-abbrev pub AsksSomethingOf : Kind → List ℕ → Type 0
-AsksSomethingOf kinds.Datagrams all = AsksSomething (bench_meaning datagram_acts) (first_bench datagram_acts) all
-AsksSomethingOf kinds.Inactive all = AsksSomething (bench_meaning inactive_acts) (first_bench inactive_acts) all
-AsksSomethingOf kinds.Relay all = AsksSomething (bench_meaning relay_acts) (first_bench relay_acts) all
-
-abbrev pub AsksOneOf : Kind → Type 0
-AsksOneOf kinds.Datagrams = AsksOne (bench_meaning datagram_acts)
-AsksOneOf kinds.Inactive = AsksOne (bench_meaning inactive_acts)
-AsksOneOf kinds.Relay = AsksOne (bench_meaning relay_acts)

@@ -4,8 +4,7 @@ ghost use Rattle.std.specs.Prelude.{◌≡◌, ◌≢◌, ◌≤◌, ◌+◌, �
 ghost use Rattle.octet_loop.specs.ByStatus.{IsFailure};
 ghost use Rattle.line_loop.specs.Limits.{most_read};
 ghost use Rattle.osi_base.specs.Ends.{HasRisen, IsAtEnd, Put, Took};
-ghost use Rattle.osi_kinds.specs.Kinds.{AsksOf, AsksOneOf, AsksSomethingOf, IsAcceptedBy, IsToldBy};
-ghost use Rattle.osi_kinds.specs.declared.kinds.Kind.{Kind as Command};
+ghost use Rattle.osi_kinds.specs.Kinds.{AsksOf, IsAcceptedBy, IsToldBy};
 
 use osi_base::{Sink, Source, Status};
 use script_bench::run_script;
@@ -15,13 +14,13 @@ use script_world::{RoutedNet, SubsetNet, TpPlay, World};
 use std::alloc::Global;
 
 /// The network of `inactive`: end systems over LANs by the inactive subset, with transport entities.
-type InactiveWorld = World<TpPlay<SubsetNet>>;
+pub type InactiveWorld = World<TpPlay<SubsetNet>>;
 
 /// The network of `datagrams`: systems over LANs, with users of datagrams.
-type DatagramWorld = World<ClPlay<RoutedNet>>;
+pub type DatagramWorld = World<ClPlay<RoutedNet>>;
 
 /// The network of `relay`: systems over LANs, with transport entities and relays.
-type RelayWorld = World<RelayPlay<RoutedNet>>;
+pub type RelayWorld = World<RelayPlay<RoutedNet>>;
 
 /// A command that reads a script, beside `run`.
 #[derive(Clone, Copy)]
@@ -83,17 +82,4 @@ pub fn run_kind<S: Source, K: Sink>(
             run_script::<RelayWorld, S, K>(alloc, source, sink)
         }
     }
-}
-
-/// All octets ask for a status and a transcript, and not for two, of each command.
-pub fn kinds_have_one_outcome()
-    ensures some { (kind : Command) (all : List ℕ) → AsksSomethingOf kind all }
-    ensures one { (kind : Command) → AsksOneOf kind }
-{
-    script_bench::some_outcome::<DatagramWorld>();
-    script_bench::some_outcome::<InactiveWorld>();
-    script_bench::some_outcome::<RelayWorld>();
-    script_bench::one_outcome::<DatagramWorld>();
-    script_bench::one_outcome::<InactiveWorld>();
-    script_bench::one_outcome::<RelayWorld>();
 }

@@ -3,4 +3,4 @@
 
 mod kinds;
 
-pub use kinds::{Kind, kinds_have_one_outcome, run_kind};
+pub use kinds::{DatagramWorld, InactiveWorld, Kind, RelayWorld, run_kind};

@@ -32,9 +32,9 @@ use Rattle.clnp_system.specs.Node.{Node}
 use Rattle.clnp_system.specs.Tables.{rows_tables}
 use Rattle.law_clnp_step.specs.Handling.{Handles, OffersFrame, OffersFrames, TicksAll, plain_wish}
 use Rattle.law_clnp_step.specs.Step.{Arrives, Begins, IsDropped, IsFull, IsNobodys, IsTaken, NetOffers, NetTicks}
-use Rattle.law_clnp_answers.specs.Serving.{StandsInOctets}
-use Rattle.law_clnp_answers.specs.Standing.{FitsKept, is_nsap}
-use Rattle.law_clnp_answers.proofs.Always.{begins_serving, serves}
+use Rattle.law_clnp_net.specs.Serving.{StandsInOctets}
+use Rattle.law_clnp_net.specs.Standing.{FitsKept, is_nsap}
+use Rattle.law_clnp_net.proofs.Always.{begins_serving, serves}
 use Rattle.line_loop.specs.Lines.{most_lines}
 use Rattle.line_loop.specs.Laws.{AsksSomething}
 use Rattle.line_loop.specs.Course.{HasCourse}

@@ -121,7 +121,7 @@ impl Machine for Capture {
 fn lans(world: &NetWorld) -> Option<&LanBag>
     ensures { option_copied result ≡ bag_of world.now }
 {
-    match world {
+    match world.stage() {
         World::SettingUp(_) => None,
         World::Running(running) => Some(running.ends().carrier().link()),
     }

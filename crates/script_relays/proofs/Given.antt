@@ -40,18 +40,18 @@ use Rattle.tp4_relay.proofs.Leaving.{all_given, pump_leaves}
 use Rattle.tp4_relay.proofs.PairsHold.{PairHolds}
 use Rattle.tp4_world.specs.Run.{Settles, Starts}
 use Rattle.tp4_world.specs.World.{World}
-use Rattle.law_relay_run.specs.Asked.{is_relayed}
+use Rattle.law_relay.specs.Asked.{is_relayed}
 use Rattle.script_relays.specs.Giving.{PartGives, PumpGives, PumpsGiveAll, RunGives, TurnsGive}
-use Rattle.law_relay_run.specs.Relays.{Answers, Asking, Idle, LastTurn, OneTurn, Part, PumpsAfter, RelayRun, RunsPart, Settling, Turns, part_of, relay_play}
-use Rattle.law_relay_run.specs.Rows.{rows_of}
-use Rattle.law_relay_run.specs.Services.{AsksEnd, AsksFor, ends_of, has_system, is_honest}
-use Rattle.law_relay_run.proofs.Begun.{first_plays}
-use Rattle.law_relay_run.proofs.Linking.{AreNotes, notes_walk, told_notes}
-use Rattle.law_relay_run.proofs.Playing.{Plays}
-use Rattle.law_relay_run.proofs.Pumping.{middle_tidy}
-use Rattle.law_relay_run.proofs.Running.{After, Leaves, answer_leaves, line_plays, pumped, settles}
-use Rattle.law_relay_run.proofs.Serving.{world_serves}
-use Rattle.law_relay_run.proofs.Walks.{after_append}
+use Rattle.law_relay.specs.Relays.{Answers, Asking, Idle, LastTurn, OneTurn, Part, PumpsAfter, RelayRun, RunsPart, Settling, Turns, part_of, relay_play}
+use Rattle.law_relay.specs.Rows.{rows_of}
+use Rattle.law_relay.specs.Services.{AsksEnd, AsksFor, ends_of, has_system, is_honest}
+use Rattle.law_relay.proofs.Begun.{first_plays}
+use Rattle.law_relay.proofs.Linking.{AreNotes, notes_walk, told_notes}
+use Rattle.law_relay.proofs.Playing.{Plays}
+use Rattle.law_relay.proofs.Pumping.{middle_tidy}
+use Rattle.law_relay.proofs.Running.{After, Leaves, answer_leaves, line_plays, pumped, settles}
+use Rattle.law_relay.proofs.Serving.{world_serves}
+use Rattle.law_relay.proofs.Walks.{after_append}
 use Rattle.script_relays.proofs.Units.{notes_nothing}
 
 module _ {N : Type 0} (link : N → Link (List ℕ)) (steps : N → Call (List ℕ) → N → Type 0) (keeps : (old : N) (call : Call (List ℕ)) (new : N) → steps old call new → Keeps (link old) call (link new))

@@ -18,7 +18,7 @@ use Rattle.tp4_relay.specs.Relaying.{AreJoinedOnce, IsCalled, Relays, RelaysUnit
 use Rattle.tp4_relay.specs.steps.Tables.{IsTidy, is_claimed}
 use Rattle.tp4_relay.proofs.Journals.{IsPair, claimed_before, inbound_same, outbound_same}
 use Rattle.tp4_relay.proofs.Tidy.{allowed_notable, tidy_more}
-use Rattle.law_relay_run.proofs.Begun.{nothing_tidy}
+use Rattle.law_relay.proofs.Begun.{nothing_tidy}
 
 -- ---- the pair of a note
 

@@ -41,12 +41,12 @@ use Rattle.tp4_world.specs.World.{World}
 use Rattle.tp4_world.proofs.Lined.{lines_alike}
 use Rattle.tp4_world.proofs.Shown.{first_honest, sent_where_honest}
 use Rattle.script_relays.specs.Claims.{RelaysLawfully, frozen_of, life_of, titles_of}
-use Rattle.law_relay_run.specs.Relays.{RelayRun, part_of, relay_play}
-use Rattle.law_relay_run.specs.Rows.{rows_of}
-use Rattle.law_relay_run.proofs.Begun.{first_plays}
-use Rattle.law_relay_run.proofs.Leading.{rows_lead}
-use Rattle.law_relay_run.proofs.Playing.{Plays}
-use Rattle.law_relay_run.proofs.Running.{line_plays}
+use Rattle.law_relay.specs.Relays.{RelayRun, part_of, relay_play}
+use Rattle.law_relay.specs.Rows.{rows_of}
+use Rattle.law_relay.proofs.Begun.{first_plays}
+use Rattle.law_relay.proofs.Leading.{rows_lead}
+use Rattle.law_relay.proofs.Playing.{Plays}
+use Rattle.law_relay.proofs.Running.{line_plays}
 use Rattle.script_relays.proofs.Rebuilt.{Leads, Rebuilt, part_rebuilt, rebuilt_none, rebuilt_then, told_plain}
 use Rattle.script_relays.proofs.Units.{script_relays, script_units}
 

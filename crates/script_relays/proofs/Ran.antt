@@ -7,7 +7,7 @@ use Rattle.script_journal.specs.declared.event.Event.{Event}
 use Rattle.script_lines.specs.declared.line.Line.{Line}
 use Rattle.tp4_relay.specs.Kept.{Kept}
 use Rattle.tp4_world.specs.World.{World}
-use Rattle.law_relay_run.specs.Relays.{RelayRun, RunsPart, RunsRelays, part_of}
+use Rattle.law_relay.specs.Relays.{RelayRun, RunsPart, RunsRelays, part_of}
 
 pub runs_on : {N E : Type 0} (link : N → Link (List ℕ)) (steps : N → Call (List ℕ) → N → Type 0) (old : RelayRun N) (titles given : List (List ℕ)) (before new : World N) (kept last : Kept) (line : Line)
     (made : List Event) (result : Result (Unit {0}) E) → record { titles = titles; ends = before; relay = kept } ≡ old → given ≡ titles

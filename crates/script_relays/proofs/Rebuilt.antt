@@ -53,16 +53,16 @@ use Rattle.tp4_world.specs.Run.{Calls, Connects, RunsLine, RunsLines, Settles, t
 use Rattle.tp4_world.specs.World.{World}
 use Rattle.law_relay.specs.Notes.{is_note, plain}
 use Rattle.law_relay.proofs.Noting.{plain_more}
-use Rattle.law_relay_run.specs.Asked.{is_relayed}
-use Rattle.law_relay_run.specs.Relays.{Answers, Asking, Idle, LastTurn, OneTurn, Part, PumpsAfter, RelayRun, RunsPart, Settling, Turns}
-use Rattle.law_relay_run.specs.Services.{AsksEnd, AsksFor}
-use Rattle.law_relay_run.proofs.Answering.{RowLeads}
-use Rattle.law_relay_run.proofs.OneRun.{call_line, call_runs}
-use Rattle.law_relay_run.proofs.Playing.{Plays}
-use Rattle.law_relay_run.proofs.Running.{answer_leaves, pumped, settles}
-use Rattle.law_relay_run.proofs.TextRows.{HasText, IsPlaceOf, IsStageOf}
-use Rattle.law_relay_run.proofs.TextWalks.{IsFine, UpIs, WorldIs, line_is, told_fine}
-use Rattle.law_relay_run.proofs.Walks.{after_append}
+use Rattle.law_relay.specs.Asked.{is_relayed}
+use Rattle.law_relay.specs.Relays.{Answers, Asking, Idle, LastTurn, OneTurn, Part, PumpsAfter, RelayRun, RunsPart, Settling, Turns}
+use Rattle.law_relay.specs.Services.{AsksEnd, AsksFor}
+use Rattle.law_relay.proofs.Answering.{RowLeads}
+use Rattle.law_relay.proofs.OneRun.{call_line, call_runs}
+use Rattle.law_relay.proofs.Playing.{Plays}
+use Rattle.law_relay.proofs.Running.{answer_leaves, pumped, settles}
+use Rattle.law_relay.proofs.TextRows.{HasText, IsPlaceOf, IsStageOf}
+use Rattle.law_relay.proofs.TextWalks.{IsFine, UpIs, WorldIs, line_is, told_fine}
+use Rattle.law_relay.proofs.Walks.{after_append}
 use Rattle.tpdu.specs.declared.service.EndTold.TheVariants as tells
 
 -- ---- no event of a network is a note

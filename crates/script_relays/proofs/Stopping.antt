@@ -2,7 +2,7 @@
 use Rattle.std.proofs.Common.{◌≡◌, ℕ, suc, ◌-◌, ◌&&◌, not, Bool, true, false, List, [], ◌∷◌, length, Option, Some, None, refl, sym, ◌∙◌, ap, arith}
 use Rattle.std.specs.Prelude.{slice_get}
 use Rattle.script_journal.specs.declared.event.Event.{Event}
-use Rattle.law_relay_run.specs.Relays.{is_more, is_stop, is_stopped}
+use Rattle.law_relay.specs.Relays.{is_more, is_stop, is_stopped}
 
 abbrev pub stop_of : Option Event → Bool
 stop_of None = false

@@ -20,11 +20,11 @@ use Rattle.tp4_relay.specs.Service.{Tells}
 use Rattle.tp4_relay.proofs.Telling.{rows_stay}
 use Rattle.tp4_world.specs.Run.{Settles}
 use Rattle.tp4_world.specs.World.{World}
-use Rattle.law_relay_run.specs.Asked.{is_relayed}
-use Rattle.law_relay_run.specs.Relays.{Answers, Asking, LastTurn, OneTurn, Part, PumpsAfter, RunsPart, Turns, is_more, part_of}
-use Rattle.law_relay_run.specs.Services.{AsksEnd, AsksFor, ends_of, has_system}
-use Rattle.law_relay_run.proofs.Playing.{Plays}
-use Rattle.law_relay_run.proofs.Running.{Leaves, answer_leaves, pumped, settles}
+use Rattle.law_relay.specs.Asked.{is_relayed}
+use Rattle.law_relay.specs.Relays.{Answers, Asking, LastTurn, OneTurn, Part, PumpsAfter, RunsPart, Turns, is_more, part_of}
+use Rattle.law_relay.specs.Services.{AsksEnd, AsksFor, ends_of, has_system}
+use Rattle.law_relay.proofs.Playing.{Plays}
+use Rattle.law_relay.proofs.Running.{Leaves, answer_leaves, pumped, settles}
 
 -- any other line is an event line, and no `settle` line
 pub is_asking : (line : Line) → (line ≡ lines.Nothing → ⊥) → (line ≡ lines.Settle → ⊥) → part_of line ≡ Asking

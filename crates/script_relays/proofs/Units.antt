@@ -36,13 +36,13 @@ use Rattle.tp4_relay.proofs.Commuting.{allowed_more}
 use Rattle.tp4_relay.proofs.Journals.{front_allowed, nothing_stands, relays_units, stands_after}
 use Rattle.tp4_world.specs.Run.{Starts}
 use Rattle.tp4_world.specs.World.{World}
-use Rattle.law_relay_run.specs.Relays.{RelayRun, relay_play}
-use Rattle.law_relay_run.specs.Rows.{rows_of}
-use Rattle.law_relay_run.proofs.Begun.{first_plays}
-use Rattle.law_relay_run.proofs.Linking.{AreNotes, IsNote, notes_walk, told_notes}
-use Rattle.law_relay_run.proofs.Playing.{Plays}
-use Rattle.law_relay_run.proofs.Running.{line_plays}
-use Rattle.law_relay_run.proofs.Walks.{after_append}
+use Rattle.law_relay.specs.Relays.{RelayRun, relay_play}
+use Rattle.law_relay.specs.Rows.{rows_of}
+use Rattle.law_relay.proofs.Begun.{first_plays}
+use Rattle.law_relay.proofs.Linking.{AreNotes, IsNote, notes_walk, told_notes}
+use Rattle.law_relay.proofs.Playing.{Plays}
+use Rattle.law_relay.proofs.Running.{line_plays}
+use Rattle.law_relay.proofs.Walks.{after_append}
 use Rattle.script_relays.proofs.Joins.{relays}
 use Rattle.tpdu.specs.declared.service.EndTold.TheVariants as tells
 

@@ -10,7 +10,7 @@ use Rattle.script_setup.specs.SetUp.{timers_of, titles_of as titles_said}
 use Rattle.script_world.specs.declared.play.World.{World}
 use Rattle.script_world.specs.declared.play.World.TheVariants.{Running, SettingUp}
 use Rattle.tp4_conn.specs.End.{frozen_for}
-use Rattle.law_relay_run.specs.Relays.{RelayRun}
+use Rattle.law_relay.specs.Relays.{RelayRun}
 
 -- the titles of the systems by their numbers, the lifetime of their PDUs in ticks, and for how many ticks a reference is frozen
 abbrev pub titles_of : {N : Type 0} → World (RelayRun N) → List (List ℕ)

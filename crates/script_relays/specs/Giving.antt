@@ -15,10 +15,10 @@ use Rattle.tp4_relay.specs.Kept.{Kept}
 use Rattle.tp4_relay.specs.Leaving.{AreGiven}
 use Rattle.tp4_world.specs.Run.{Settles}
 use Rattle.tp4_world.specs.World.{World}
-use Rattle.law_relay_run.specs.Asked.{is_relayed}
+use Rattle.law_relay.specs.Asked.{is_relayed}
 use Rattle.script_relays.specs.Claims.{RelaysLawfully}
-use Rattle.law_relay_run.specs.Relays.{Answers, Asking, Idle, LastTurn, OneTurn, Part, PumpsAfter, RelayRun, RunsPart, Settling, Turns, part_of, relay_play}
-use Rattle.law_relay_run.specs.Services.{AsksEnd, AsksFor}
+use Rattle.law_relay.specs.Relays.{Answers, Asking, Idle, LastTurn, OneTurn, Part, PumpsAfter, RelayRun, RunsPart, Settling, Turns, part_of, relay_play}
+use Rattle.law_relay.specs.Services.{AsksEnd, AsksFor}
 
 module _ {N : Type 0} (link : N → Link (List ℕ)) (steps : N → Call (List ℕ) → N → Type 0) where
   -- after the pump, in the journal up to its last event; those before stand before what the pump follows

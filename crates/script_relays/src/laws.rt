@@ -4,7 +4,7 @@ ghost use Rattle.script_bench.specs.Claims.{IsLaw};
 ghost use Rattle.script_world.specs.Plays.{world_acts};
 ghost use Rattle.script_relays.specs.Claims.{RelaysLawfully};
 ghost use Rattle.script_relays.specs.Giving.{PumpsGiveAll};
-ghost use Rattle.law_relay_run.specs.Relays.{relay_play};
+ghost use Rattle.law_relay.specs.Relays.{relay_play};
 
 use script_world::Network;
 

@@ -1,7 +1,7 @@
 //! A network with transport entities and relays, which a script runs once it is set up (X.214, model of the transport service).
 
 ghost use Rattle.std.specs.Prelude.{◌≡◌, [], ℕ, Bool, List, length, OnOk, IfOk};
-ghost use Rattle.law_clnp_answers.specs.Standing.{is_nsap};
+ghost use Rattle.law_clnp_net.specs.Standing.{is_nsap};
 ghost use Rattle.law_setup.specs.Lines.{RunsAt};
 ghost use Rattle.script_journal.specs.declared.event.Event.{Event as Told};
 ghost use Rattle.script_lines.specs.Commands.{HasLine};
@@ -9,9 +9,9 @@ ghost use Rattle.script_lines.specs.declared.words.Dialect.TheVariants.{Relay as
 ghost use Rattle.tp4_number.specs.Number.{wire};
 ghost use Rattle.tp4_world.specs.Run.{Settles};
 ghost use Rattle.tp4_world.specs.Total.{CanRun};
-ghost use Rattle.law_relay_run.specs.Asked.{is_relayed};
-ghost use Rattle.law_relay_run.specs.Relays.{Answers, PumpsAfter, RunsPart, Turns, is_more, is_stop, is_stopped, part_of};
-ghost use Rattle.law_relay_run.proofs.Playing.{Plays};
+ghost use Rattle.law_relay.specs.Asked.{is_relayed};
+ghost use Rattle.law_relay.specs.Relays.{Answers, PumpsAfter, RunsPart, Turns, is_more, is_stop, is_stopped, part_of};
+ghost use Rattle.law_relay.proofs.Playing.{Plays};
 
 use crate::rows::rows;
 use crate::service::WorldService;
@@ -50,7 +50,7 @@ impl<N: Network + Drop> Drop for RelayPlay<N> {
 }
 
 impl<N: Network + Drop> Model for RelayPlay<N> {
-    ghost use Rattle.law_relay_run.specs.Relays.{RelayRun};
+    ghost use Rattle.law_relay.specs.Relays.{RelayRun};
 
     ghost Value = { RelayRun N };
 
@@ -58,8 +58,8 @@ impl<N: Network + Drop> Model for RelayPlay<N> {
 }
 
 impl<N: Network + Drop> Play for RelayPlay<N> {
-    ghost use Rattle.law_relay_run.specs.Relays.{relay_play};
-    ghost use Rattle.law_relay_run.proofs.Played.{relay_going, relay_laws};
+    ghost use Rattle.law_relay.specs.Relays.{relay_play};
+    ghost use Rattle.law_relay.proofs.Played.{relay_going, relay_laws};
 
     ghost play = { relay_play N.link N.steps N.makes };
 

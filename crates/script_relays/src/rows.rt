@@ -2,7 +2,7 @@
 
 ghost use Rattle.std.specs.Prelude.{◌≡◌, ◌<◌, length, map, IfOk};
 ghost use Rattle.std.specs.List.{AllByRecursion};
-ghost use Rattle.law_relay_run.specs.Rows.{row_of};
+ghost use Rattle.law_relay.specs.Rows.{row_of};
 ghost use Rattle.script_setup.specs.declared.relay.RelayLine.{RelayLine as Said};
 
 use nsap::{Nsap, TRANSPORT};

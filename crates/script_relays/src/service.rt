@@ -1,14 +1,14 @@
 //! The transport entities of a network as a relay sees them (X.214, service primitives).
 
 ghost use Rattle.std.specs.Prelude.{◌≡◌, [], false, length, OnOk, IfOk};
-ghost use Rattle.law_clnp_answers.specs.Standing.{is_nsap};
+ghost use Rattle.law_clnp_net.specs.Standing.{is_nsap};
 ghost use Rattle.law_setup.specs.Lines.{RunsAt};
 ghost use Rattle.script_lines.specs.Commands.{HasLine};
 ghost use Rattle.script_lines.specs.declared.words.Dialect.TheVariants.{Relay as OfRelay};
 ghost use Rattle.tp4_number.specs.Number.{wire};
 ghost use Rattle.tp4_world.specs.Run.{RunsLine, Settles};
 ghost use Rattle.tp4_world.specs.Total.{CanRun};
-ghost use Rattle.law_relay_run.specs.Services.{IsInOrder, is_done};
+ghost use Rattle.law_relay.specs.Services.{IsInOrder, is_done};
 
 use nsap::Nsap;
 use osi_base::{Carrier, NoMemory, go_on};
@@ -34,7 +34,7 @@ pub struct WorldService<C: Carrier<Addr = Nsap> + Drop> {
 impl<C: Carrier<Addr = Nsap> + Drop> Model for WorldService<C> {
     ghost use Rattle.std.specs.Prelude.{◌≡◌, false};
     ghost use Rattle.tp4_world.specs.World.{World};
-    ghost use Rattle.law_relay_run.specs.Services.{IsInOrder};
+    ghost use Rattle.law_relay.specs.Services.{IsInOrder};
 
     ghost Value = { World C };
 
@@ -96,8 +96,8 @@ impl<N: Network + Drop> WorldService<N> {
 }
 
 impl<C: Carrier<Addr = Nsap> + Drop> Service for WorldService<C> {
-    ghost use Rattle.law_relay_run.specs.Services.{AsksEnd, AsksFor, ends_of, has_system, is_honest};
-    ghost use Rattle.law_relay_run.proofs.Serving.{world_serves};
+    ghost use Rattle.law_relay.specs.Services.{AsksEnd, AsksFor, ends_of, has_system, is_honest};
+    ghost use Rattle.law_relay.proofs.Serving.{world_serves};
 
     ghost has = { has_system };
 

@@ -3,7 +3,7 @@
 ghost use Rattle.std.specs.Prelude.{◌≡◌, [], length, OnOk};
 ghost use Rattle.tp4_number.specs.Number.{wire};
 ghost use Rattle.tp4_world.specs.Run.{RunsLine};
-ghost use Rattle.law_clnp_answers.specs.Standing.{is_nsap};
+ghost use Rattle.law_clnp_net.specs.Standing.{is_nsap};
 ghost use Rattle.law_setup.specs.Lines.{RunsAt};
 ghost use Rattle.tp4_world.specs.Total.{CanRun};
 ghost use Rattle.script_world.specs.Transports.{strays_in};

@@ -8,8 +8,8 @@ use Rattle.std.proofs.lemmas.List.{length-map}
 use Rattle.nsap.specs.Address.{system_part}
 use Rattle.osi_base.specs.Link.{Link}
 use Rattle.osi_base.specs.Calls.{Call, Keeps}
-use Rattle.law_clnp_answers.specs.Standing.{is_nsap}
-use Rattle.law_clnp_answers.proofs.answered.Carrying.{nsap_passes}
+use Rattle.law_clnp_net.specs.Standing.{is_nsap}
+use Rattle.law_clnp_net.proofs.answered.Carrying.{nsap_passes}
 use Rattle.line_loop.specs.Lines.{most_lines}
 use Rattle.script_lines.specs.Commands.{HasLine as HasLineOf}
 use Rattle.script_lines.specs.declared.words.Dialect.{Dialect}

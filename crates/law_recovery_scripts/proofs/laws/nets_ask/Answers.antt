@@ -1,8 +1,8 @@
 use Rattle.tp4_number.specs.Number.{whole}
 use Rattle.law_tp4_lawful.proofs.ActsLines.{Flowing}
 use Rattle.law_setup.proofs.Made.{net_law}
-use Rattle.law_recovery_asking.specs.Service.{AsksFrom}
-use Rattle.law_recovery_asking.proofs.Walking.{accepts_over, asks_over}
+use Rattle.law_recovery.specs.Service.{AsksFrom}
+use Rattle.law_recovery.proofs.AskingWalks.{accepts_over, asks_over}
 use Rattle.law_run.specs.World.{NetDoes, link_of_net}
 use Rattle.law_recovery_scripts.proofs.Prompt.{on_nets}
 use Rattle.law_recovery_scripts.proofs.laws.nets_ask.Goals as goal

@@ -1,8 +1,8 @@
 use Rattle.tp4_number.specs.Number.{whole}
 use Rattle.law_tp4_lawful.proofs.ActsLines.{Flowing}
 use Rattle.law_setup.proofs.Made.{net_law}
-use Rattle.law_recovery_halves.specs.Runs.{FollowsFrom}
-use Rattle.law_recovery_halves.proofs.Running.{follows_over}
+use Rattle.law_recovery.specs.Runs.{FollowsFrom}
+use Rattle.law_recovery.proofs.Running.{follows_over}
 use Rattle.law_run.specs.World.{NetDoes, link_of_net}
 use Rattle.law_recovery_scripts.proofs.Prompt.{on_nets}
 use Rattle.law_recovery_scripts.proofs.laws.nets_follow.Goals as goal

@@ -2,7 +2,7 @@ use Rattle.tp4_number.specs.Number.{whole}
 use Rattle.law_tp4_lawful.proofs.ActsLines.{Flowing}
 use Rattle.law_setup.proofs.Made.{net_law}
 use Rattle.law_recovery.proofs.Walking.{walked}
-use Rattle.law_recovery_service.specs.Service.{RecoversFrom}
+use Rattle.law_recovery_run.specs.Service.{RecoversFrom}
 use Rattle.law_run.specs.World.{NetDoes, link_of_net}
 use Rattle.law_recovery_scripts.proofs.Prompt.{on_nets}
 use Rattle.law_recovery_scripts.proofs.laws.nets_recover.Goals as goal

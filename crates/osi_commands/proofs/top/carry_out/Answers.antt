@@ -15,12 +15,12 @@ use Rattle.osi_commands.proofs.top.carry_out.Goals as goal
 
 pub returns-in-Run-clause-does : goal.returns-in-Run-clause-does
 returns-in-Run-clause-does g c = by_command _ _ _ _ _ _ _ _ _ _ _ c.in-Run.is (record {
-  told = transcript g.S.Source.left g.K.Sink.held c.args.source.now c.args.sink.now c.run_script.new.source c.run_script.new.sink _
+  told = transcript g.S.Source.left g.K.Sink.held c.args.source.now c.args.sink.now c.run_network.new.source c.run_network.new.sink _
       (shows_submitted c.ends_are_lawful.ensures) (shows_silence c.systems_are_silent.ensures) (serves_where_calm c.calm_scripts_are_served.ensures) c.scripts_recover.ensures.octets
-      c.outages_are_kept.ensures.octets c.run_script.ensures.outcome;
-  exact = c.run_script.ensures.exact;
+      c.outages_are_kept.ensures.octets c.run_network.ensures.outcome;
+  exact = c.run_network.ensures.exact;
   complete = λ all tells accepted no_read no_write.
-      text_first (λ (text : List ℕ). AsksFor bench_meaning first_bench all text Done) _ _ _ (c.run_script.ensures.complete all tells accepted no_read no_write);
+      text_first (λ (text : List ℕ). AsksFor bench_meaning first_bench all text Done) _ _ _ (c.run_network.ensures.complete all tells accepted no_read no_write);
 })
 
 pub returns-in-Frames-clause-does : goal.returns-in-Frames-clause-does

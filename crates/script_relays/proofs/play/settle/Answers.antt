@@ -1,7 +1,7 @@
 use Rattle.std.proofs.Common.{◌≡◌, ◌∙◌, ◌+◌, ◌<◌, arith, false, true, List, subst, sym}
 use Rattle.std.proofs.lemmas.Bool.Decides.{nat_tests}
 use Rattle.script_journal.specs.declared.event.Event.{Event}
-use Rattle.law_relay_run.specs.Relays.{Turns, is_more}
+use Rattle.law_relay.specs.Relays.{Turns, is_more}
 use Rattle.script_relays.proofs.Turning.{TurnsSo, last_turn, next_turn}
 use Rattle.script_relays.proofs.play.settle.Goals as goal
 

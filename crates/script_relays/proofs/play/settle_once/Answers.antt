@@ -1,7 +1,7 @@
 use Rattle.std.proofs.Common.{◌∙◌, ap}
 use Rattle.tp4_number.specs.Number.{wire}
 use Rattle.tp4_world.specs.Run.{Settles}
-use Rattle.law_relay_run.specs.Relays.{is_stopped}
+use Rattle.law_relay.specs.Relays.{is_stopped}
 use Rattle.script_relays.proofs.Stopping.{more_so, none_more}
 use Rattle.script_relays.proofs.Turning.{after_pump, settled_plays, settled_pump}
 use Rattle.script_relays.proofs.play.settle_once.Goals as goal

@@ -1,5 +1,5 @@
 use Rattle.std.proofs.Common.{◌≡◌, map, take}
-use Rattle.law_relay_run.specs.Rows.{row_of}
+use Rattle.law_relay.specs.Rows.{row_of}
 use Rattle.script_relays.proofs.rows.rows.Given as goal
 
 abbrev pub invariant-loop-line : goal.invariant-loop-line

@@ -1,6 +1,6 @@
 use Rattle.std.proofs.Common.{ap, subst}
 use Rattle.std.specs.Prelude.{is_some}
-use Rattle.law_clnp_answers.specs.Standing.{is_nsap}
+use Rattle.law_clnp_net.specs.Standing.{is_nsap}
 use Rattle.script_lines.specs.declared.line.Line.{Line}
 use Rattle.tp4_world.specs.Total.{CanRun}
 use Rattle.script_world.proofs.transport.run_line.Goals as goal

@@ -8,8 +8,8 @@ use Rattle.tp4_conn.specs.declared.timers.Timers.{Timers}
 use Rattle.script_setup.specs.declared.relay.RelayLine.{RelayLine}
 use Rattle.tp4_relay.specs.declared.row.RelayRow.{RelayRow}
 use Rattle.tp4_relay.specs.Kept.{nothing_kept}
-use Rattle.law_relay_run.specs.Rows.{row_of}
-use Rattle.law_relay_run.proofs.Begun.{first_order}
+use Rattle.law_relay.specs.Rows.{row_of}
+use Rattle.law_relay.proofs.Begun.{first_order}
 use Rattle.script_relays.proofs.play.RelayPlayPlay.start.Goals as goal
 
 pub start-requires-clause-low : goal.start-requires-clause-low

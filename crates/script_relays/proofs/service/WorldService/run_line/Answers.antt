@@ -1,4 +1,4 @@
-use Rattle.law_relay_run.proofs.Ordering.{line_order}
+use Rattle.law_relay.proofs.Ordering.{line_order}
 use Rattle.script_relays.proofs.service.WorldService.run_line.Goals as goal
 
 pub invariant_of-self-2 : goal.invariant_of-self-2

@@ -1,6 +1,6 @@
 use Rattle.std.proofs.Common.{◌∙◌, ap}
-use Rattle.law_relay_run.specs.Services.{is_done}
-use Rattle.law_relay_run.proofs.Ordering.{connect_order}
+use Rattle.law_relay.specs.Services.{is_done}
+use Rattle.law_relay.proofs.Ordering.{connect_order}
 use Rattle.script_relays.proofs.service.WorldServiceService.connect.Goals as goal
 
 pub invariant_of-self-2 : goal.invariant_of-self-2

@@ -1,3 +1,0 @@
-pub mod Confirms
-pub mod Pairs
-pub mod steps

@@ -1,8 +1,0 @@
-pub mod Always
-pub mod Bags
-pub mod HelloSteps
-pub mod Hellos
-pub mod Steps
-pub mod answered
-pub mod once
-pub mod written

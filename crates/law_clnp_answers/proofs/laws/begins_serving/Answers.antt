@@ -1,5 +1,0 @@
-use Rattle.law_clnp_answers.proofs.Always.{begins_serving}
-use Rattle.law_clnp_answers.proofs.laws.begins_serving.Goals as goal
-
-pub returns : goal.returns
-returns c = begins_serving

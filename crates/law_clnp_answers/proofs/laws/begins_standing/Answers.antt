@@ -1,5 +1,0 @@
-use Rattle.law_clnp_answers.proofs.Always.{begins_standing}
-use Rattle.law_clnp_answers.proofs.laws.begins_standing.Goals as goal
-
-pub returns : goal.returns
-returns c = begins_standing

@@ -1,5 +1,0 @@
-use Rattle.law_clnp_answers.proofs.Hellos.{router_is_told}
-use Rattle.law_clnp_answers.proofs.laws.router_is_told.Goals as goal
-
-pub returns : goal.returns
-returns c = router_is_told

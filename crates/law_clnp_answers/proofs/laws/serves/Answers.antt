@@ -1,5 +1,0 @@
-use Rattle.law_clnp_answers.proofs.Always.{serves}
-use Rattle.law_clnp_answers.proofs.laws.serves.Goals as goal
-
-pub returns : goal.returns
-returns c = serves

@@ -1,5 +1,0 @@
-use Rattle.law_clnp_fifo.proofs.joining.Brings.{cut_brings}
-use Rattle.law_clnp_fifo.proofs.cutting.cut_brings.Goals as goal
-
-pub returns : goal.returns
-returns c s = cut_brings

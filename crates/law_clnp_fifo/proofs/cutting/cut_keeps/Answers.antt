@@ -1,5 +1,0 @@
-use Rattle.law_clnp_fifo.proofs.joining.Sent.{cut_keeps}
-use Rattle.law_clnp_fifo.proofs.cutting.cut_keeps.Goals as goal
-
-pub returns : goal.returns
-returns c s = cut_keeps

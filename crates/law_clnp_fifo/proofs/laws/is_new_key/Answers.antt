@@ -1,5 +1,0 @@
-use Rattle.law_clnp_fifo.proofs.Fresh.{is_new}
-use Rattle.law_clnp_fifo.proofs.laws.is_new_key.Goals as goal
-
-pub returns : goal.returns
-returns c = is_new

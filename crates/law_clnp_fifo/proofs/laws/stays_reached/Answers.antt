@@ -1,5 +1,0 @@
-use Rattle.law_clnp_fifo.proofs.reached.Steps.{reached_net}
-use Rattle.law_clnp_fifo.proofs.laws.stays_reached.Goals as goal
-
-pub returns : goal.returns
-returns c = reached_net

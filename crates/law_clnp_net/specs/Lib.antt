@@ -1,0 +1,11 @@
+pub mod Beginning
+pub mod Calm
+pub mod Cutting
+pub mod Frames
+pub mod Hellos
+pub mod Joining
+pub mod Laws
+pub mod Reached
+pub mod Serving
+pub mod Standing
+pub mod Waiting

@@ -1,5 +1,0 @@
-use Rattle.law_recovery_asking.proofs.Wired.{asks_on_wire}
-use Rattle.law_recovery_asking.proofs.laws.asks_on_wire.Goals as goal
-
-pub returns : goal.returns
-returns g c = asks_on_wire g.C.Carrier.link g.C.Carrier.steps c.whole_run.ensures.run c.whole_run.ensures.whole

@@ -1,4 +1,0 @@
-pub mod Acting
-pub mod Fitting
-pub mod Pairs
-pub mod Sending

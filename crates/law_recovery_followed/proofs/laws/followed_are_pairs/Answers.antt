@@ -1,5 +1,0 @@
-use Rattle.law_recovery_followed.proofs.Followed.{followed_pairs}
-use Rattle.law_recovery_followed.proofs.laws.followed_are_pairs.Goals as goal
-
-pub returns : goal.returns
-returns g c = followed_pairs g.C.Carrier.link g.C.Carrier.steps c.partners_are_followed.ensures

@@ -1,9 +1,0 @@
-pub mod Causes
-pub mod Fitting
-pub mod Going
-pub mod Pairs
-pub mod Parting
-pub mod Rows
-pub mod Spoken
-pub mod Timely
-pub mod Trying

@@ -1,5 +1,0 @@
-use Rattle.law_recovery_going.proofs.Fitting.{dts_fit}
-use Rattle.law_recovery_going.proofs.laws.dts_fit.Goals as goal
-
-pub returns : goal.returns
-returns c = dts_fit

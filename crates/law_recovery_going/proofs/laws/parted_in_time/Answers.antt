@@ -1,5 +1,0 @@
-use Rattle.law_recovery_going.proofs.Timely.{parted_in_time}
-use Rattle.law_recovery_going.proofs.laws.parted_in_time.Goals as goal
-
-pub returns : goal.returns
-returns c = parted_in_time

@@ -1,4 +1,0 @@
-pub mod Causes
-pub mod Fitting
-pub mod Going
-pub mod Laws

@@ -1,4 +1,0 @@
-pub mod Asking
-pub mod Confirmed
-pub mod Laws
-pub mod Partners

@@ -1,5 +1,0 @@
-use Rattle.law_recovery_opening.proofs.Stepping.{openings_step}
-use Rattle.law_recovery_opening.proofs.laws.openings_step.Goals as goal
-
-pub returns : goal.returns
-returns c = openings_step

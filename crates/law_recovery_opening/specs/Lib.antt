@@ -1,4 +1,0 @@
-pub mod Laws
-pub mod Opening
-pub mod Requests
-pub mod Steps

@@ -1,4 +1,0 @@
-pub mod Beginning
-pub mod Calls
-mod Numbers
-mod Usual

@@ -1,5 +1,0 @@
-use Rattle.law_recovery_request.proofs.Ticking.{sends_again}
-use Rattle.law_recovery_request.proofs.laws.requests_are_sent_again.Goals as goal
-
-pub returns : goal.returns
-returns c = sends_again

@@ -1,0 +1,17 @@
+use Rattle.std.specs.Prelude.{◌≡◌, ℕ, List, Some}
+use Rattle.script_journal.specs.declared.event.Event.{Event}
+use Rattle.tp4_conn.specs.End.{End}
+use Rattle.law_tp4_lawful.proofs.ActsLines.{Flowing}
+use Rattle.law_tp4_lawful.proofs.CalledStarts.{on_whole}
+use Rattle.law_calm_run.specs.Service.{end_at_number}
+use Rattle.law_recovery_run.specs.Following.{Stands}
+use Rattle.law_recovery_run.proofs.Numbers.{has_number, there_stands}
+use Rattle.law_recovery_run.proofs.laws.ends_have_numbers.Goals as goal
+
+pub returns : goal.returns
+returns g c =
+    let flow = c.flowed.ensures in
+    let flowing : Flowing = record { step = flow.step; partner = flow.partner; later = flow.later; offered = flow.offered; plain = flow.plain; noted = flow.noted } in
+    on_whole g.C.Carrier.link g.C.Carrier.steps g.met.C.Carrier.keeps flowing flow.known c.journals_are_lawful.ensures.begins
+    (λ (journal : List Event) last. (x : ℕ) (e : End) → (Stands last x e → end_at_number last x ≡ Some e) × (end_at_number last x ≡ Some e → Stands last x e))
+    (λ titles timers w journal world explains x e. (λ s. has_number g.C.Carrier.link titles timers w journal world explains x e s, λ is. there_stands world x e is))

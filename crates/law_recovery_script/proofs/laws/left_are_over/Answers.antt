@@ -1,5 +1,0 @@
-use Rattle.law_recovery_script.proofs.Numbers.{left_over}
-use Rattle.law_recovery_script.proofs.laws.left_are_over.Goals as goal
-
-pub returns : goal.returns
-returns g c last x left e o at opened = left_over last x left e o at opened

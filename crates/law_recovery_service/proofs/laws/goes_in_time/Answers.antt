@@ -1,5 +1,0 @@
-use Rattle.law_recovery_service.proofs.Timely.{in_time}
-use Rattle.law_recovery_service.proofs.laws.goes_in_time.Goals as goal
-
-pub returns : goal.returns
-returns c = in_time

@@ -1,4 +1,0 @@
-use Rattle.law_recovery_telling.proofs.laws.runs_tell.Goals as goal
-
-pub returns : goal.returns
-returns g c titles begins queue_of prompt = c.walked_tell.ensures titles begins (c.runs_are_told.ensures titles begins queue_of prompt)

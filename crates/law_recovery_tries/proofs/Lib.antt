@@ -1,4 +1,0 @@
-pub mod Keeping
-pub mod NoErEntities
-pub mod NoErRows
-pub mod Trying

@@ -1,5 +1,0 @@
-use Rattle.law_recovery_tries.proofs.NoErEntities.{none_sends_er}
-use Rattle.law_recovery_tries.proofs.laws.none_sends_er.Goals as goal
-
-pub returns : goal.returns
-returns c = none_sends_er

@@ -1,5 +1,0 @@
-use Rattle.law_recovery_tries.proofs.Keeping.{rows_keep_up}
-use Rattle.law_recovery_tries.proofs.laws.rows_keep_up.Goals as goal
-
-pub returns : goal.returns
-returns c = rows_keep_up

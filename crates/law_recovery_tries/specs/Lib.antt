@@ -1,4 +1,0 @@
-pub mod Ers
-pub mod Laws
-pub mod Since
-pub mod UpToDate

@@ -1,4 +1,0 @@
-pub mod Asked
-pub mod Relays
-pub mod Rows
-pub mod Services

@@ -1,5 +1,0 @@
-use Rattle.law_setup_times.proofs.Parting.{scripts_part}
-use Rattle.law_setup_times.proofs.laws.scripts_part.Goals as goal
-
-pub returns : goal.returns
-returns g c = scripts_part g.C.Carrier.link g.C.Carrier.steps c.scripts_are_ordered.ensures c.partners_part.ensures

@@ -1,0 +1,2 @@
+mod AskedLines
+mod Legible

@@ -1,5 +1,0 @@
-use Rattle.law_tp4_moves.proofs.Beginnings.{begun_seen, begins}
-use Rattle.law_tp4_moves.proofs.laws.begins.Goals as goal
-
-pub returns : goal.returns
-returns c = record { seen = begun_seen; may = begins }

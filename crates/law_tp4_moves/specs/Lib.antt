@@ -1,4 +1,0 @@
-pub mod Begins
-pub mod Lines
-pub mod Moves
-pub mod Seen
