@@ -14,6 +14,7 @@ use Rattle.clnp_header.specs.declared.pdu.PduRef.{PduRef}
 use Rattle.clnp_header.specs.Faults.{IsPduFault}
 use Rattle.clnp_header.specs.Grammar.{IsPdu}
 use Rattle.clnp_header.specs.Values.{own, parameters, value_of as pdu_value}
+use Rattle.clnp_header.proofs.Found.{parameters_again}
 use Rattle.esis_pdu.specs.declared.fault.EsisFault.{EsisFault}
 use Rattle.esis_pdu.specs.declared.hello.Hello.TheVariants.{Esh}
 use Rattle.esis_pdu.specs.Addresses.{addresses_in}
@@ -35,14 +36,9 @@ pub appended : (result : Result Unit NoMemory) (new text whole : List ℕ) → O
 appended (Ok done) new text whole h e = h ∙ e
 appended (Err refusal) new text whole h e = h
 
--- options are owned and lent alike
-pub options_same : (options : List Parameter) → parameters (map own options) ≡ options
-options_same [] = refl
-options_same (option ∷ options) = ap (λ (xs : List Parameter). option ∷ xs) (options_same options)
-
 pub discard_found : (options : List Parameter) (value : Option (List ℕ)) (seen : ℕ × ℕ) → seen ≡ discard_in value → value ≡ value_of 0xC1 options
     → seen ≡ discard_in (value_of 0xC1 (parameters (map own options)))
-discard_found options value seen e v = e ∙ ap discard_in (v ∙ ap (value_of 0xC1) (sym (options_same options)))
+discard_found options value seen e v = e ∙ ap discard_in (v ∙ ap (value_of 0xC1) (sym (parameters_again options)))
 
 pub dt_text : (pdu : PduRef) (lifetime : ℕ) (old : List ℕ) → lifetime ≡ pdu.lifetime
     → old ++ line (codes "dt" ∷ address_text pdu.destination ∷ address_text pdu.source ∷ decimal lifetime ∷ flags_text pdu.segment pdu.report ∷ segment_text pdu.segment
@@ -50,7 +46,7 @@ pub dt_text : (pdu : PduRef) (lifetime : ℕ) (old : List ℕ) → lifetime ≡ 
 dt_text pdu lifetime old e =
     let text : ℕ → List Parameter → List ℕ = λ n ps. old ++ line (codes "dt" ∷ address_text pdu.destination ∷ address_text pdu.source ∷ decimal n
     ∷ flags_text pdu.segment pdu.report ∷ segment_text pdu.segment ∷ parameters_text ps ∷ decimal (length pdu.body.now) ∷ []) in
-    ap (λ (n : ℕ). text n (listed pdu.options)) e ∙ ap (text pdu.lifetime) (sym (options_same (listed pdu.options)))
+    ap (λ (n : ℕ). text n (listed pdu.options)) e ∙ ap (text pdu.lifetime) (sym (parameters_again (listed pdu.options)))
 
 -- the addresses of an ESH as they are found in its octets
 pub esh_text : (octets : List ℕ) (hold time : ℕ) (addresses : List (List ℕ)) (options rest old : List ℕ)

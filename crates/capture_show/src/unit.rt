@@ -6,7 +6,7 @@ ghost use Rattle.tpdu.specs.Faults.{IsTpduFault, reference};
 ghost use Rattle.tpdu.specs.Grammar.{BeginsWithTpdu};
 ghost use Rattle.tpdu.specs.Kinds.{fixed_count};
 ghost use Rattle.tpdu.specs.Values.{format_for, seen, tpdu_of};
-ghost use Rattle.tpdu.specs.Writing.{body_for, kind_for};
+ghost use Rattle.tpdu.specs.Writing.{body_for};
 ghost use Rattle.capture_show.specs.Ends.{learned, references_of};
 ghost use Rattle.capture_show.specs.Tpdus.{bad_tpdu_line, bit, cause_text, fixed_texts, format_bit, tpdu_line};
 ghost use Rattle.capture_show.specs.steps.Units.{WritesNext, WritesUnit};
@@ -54,7 +54,7 @@ fn write_next<'a>(
     let format = format_of(octets, &pdu.destination, ends);
     match read_in(format, octets) {
         Ok((tpdu, rest)) => {
-            let parameters = parameters_of(octets, kind_of(&tpdu), format);
+            let parameters = parameters_of(octets, tpdu.kind(), format);
             write_tpdu(&tpdu, parameters, out)?;
             learn(&tpdu, pdu, ends)?;
             Ok(Some(rest))
@@ -124,22 +124,6 @@ fn parameters_of(octets: &[u8], kind: Kind, format: Format) -> &[u8]
     &header[2 + kind.fixed_count(format)..]
 }
 
-fn kind_of(tpdu: &TpduRef<'_>) -> Kind
-    ensures { result ≡ kind_for (tpdu_of tpdu.now) }
-{
-    match tpdu {
-        TpduRef::Cr { .. } => Kind::Cr,
-        TpduRef::Cc { .. } => Kind::Cc,
-        TpduRef::Dr { .. } => Kind::Dr,
-        TpduRef::Dc { .. } => Kind::Dc,
-        TpduRef::Dt { .. } => Kind::Dt,
-        TpduRef::Ed { .. } => Kind::Ed,
-        TpduRef::Ak { .. } => Kind::Ak,
-        TpduRef::Ea { .. } => Kind::Ea,
-        TpduRef::Er { .. } => Kind::Er,
-    }
-}
-
 /// Names the two ends of a CC with extended formats.
 fn learn(tpdu: &TpduRef<'_>, pdu: &PduRef<'_>, ends: &mut ExtendedEnds) -> Result<(), NoMemory>
     ensures { OnOk result (ends.new ≡ learned pdu.now.destination pdu.now.source (tpdu_of tpdu.now) ends.old) }
@@ -168,7 +152,7 @@ fn write_tpdu(tpdu: &TpduRef<'_>, parameters: &[u8], out: &mut Vec<u8>) -> Resul
     ensures { OnOk result (out.new.items ≡ out.old.items ++ tpdu_line (tpdu_of tpdu.now) (parameters_in parameters.now)) }
 {
     push_fixed(tpdu, out)?;
-    push_known(kind_of(tpdu), parameters, out)?;
+    push_known(tpdu.kind(), parameters, out)?;
     push_end(count_of(tpdu), out)
 }
 

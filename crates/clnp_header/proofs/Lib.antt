@@ -1,7 +1,7 @@
 pub mod Again
 pub mod Agreeing
 pub mod Answered
-mod FlagBits
+pub mod FlagBits
 pub mod Found
 pub mod LifetimeLowered
 pub mod OptionsRead

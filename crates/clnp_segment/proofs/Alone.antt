@@ -1,16 +1,13 @@
 -- A segment that is its whole unit comes to it at once: nothing that is held of another clashes with it, and it fills all places.
-use Rattle.std.proofs.Common.{◌≡◌, ◌==◌, ◌&&◌, ℕ, ◌+◌, ◌-◌, Bool, true, false, List, [], length, map, slice_get, Option, Some, None, refl, sym, ◌∙◌, ap, subst, arith, inl, inr}
+use Rattle.std.proofs.Common.{◌≡◌, ◌==◌, ℕ, ◌+◌, ◌-◌, true, List, [], length, map, slice_get, Option, Some, None, refl, sym, ◌∙◌, ap, subst, arith, inl, inr}
 use Rattle.std.proofs.lemmas.List.{append-nil, length-replicate}
+use Rattle.clnp_header.proofs.FlagBits.{and_true as both}
 use Rattle.clnp_segment.specs.Joining.{Filled, Held, IsSegmentOf, Segment, Together, nothing_of}
 use Rattle.clnp_segment.specs.Store.{Coming, Holding, TakesAt}
 use Rattle.clnp_segment.specs.declared.store.Joined.TheVariants as joined
 use Rattle.clnp_segment.specs.steps.Places.{is_alone}
 use Rattle.clnp_segment.proofs.Joins.{get_map, get_within, map_get, map_length, units_no_clash}
 use Rattle.clnp_segment.proofs.Units.{empty_place, nothing_is}
-
-both : (a b : Bool) → (a && b) ≡ true → (a ≡ true) × (b ≡ true)
-both true b h = (refl, h)
-both false b h = absurd cc
 
 same : (x y : ℕ) → (x == y) ≡ true → x ≡ y
 same x y h = grind (arith, h)

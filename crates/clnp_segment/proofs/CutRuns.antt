@@ -12,7 +12,7 @@ use Rattle.clnp_segment.specs.Joining.{IsSegmentOf}
 use Rattle.clnp_segment.specs.Laws.{CutsAlike}
 use Rattle.clnp_segment.specs.Units.{IsOfUnit, segment_in}
 
-get_left : (xs ys : List ℕ) (i octet : ℕ) → slice_get xs i ≡ Some octet → slice_get (xs ++ ys) i ≡ Some octet
+pub get_left : (xs ys : List ℕ) (i octet : ℕ) → slice_get xs i ≡ Some octet → slice_get (xs ++ ys) i ≡ Some octet
 get_left [] ys i octet h = absurd cc
 get_left (x ∷ xs) ys zero octet h = h
 get_left (x ∷ xs) ys (suc i) octet h = get_left xs ys i octet h

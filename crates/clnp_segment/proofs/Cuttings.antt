@@ -55,7 +55,7 @@ one_cutting pdu room (Some part) pdus others h k =
     h.2 ∙ ap (λ (xs : List (List ℕ)). piece_pdus pdu part 0 xs) (one_list room (header_length pdu) pdu.body h.0 k.0 h.1 k.1) ∙ sym k.2
 
 -- ---- what may go
-placed_below : (more : Bool) (end total : ℕ) → IsPlaced more end total → end ≤ total
+pub placed_below : (more : Bool) (end total : ℕ) → IsPlaced more end total → end ≤ total
 placed_below true end total h = omega (arith, h)
 placed_below false end total h = omega (arith, h)
 

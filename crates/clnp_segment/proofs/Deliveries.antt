@@ -3,6 +3,7 @@
 use Rattle.std.proofs.Common.{◌≡◌, ◌≢◌, ◌⊎◌, ℕ, zero, suc, ◌+◌, ◌<◌, Bool, true, false, List, [], ◌∷◌, ◌++◌, length, slice_get, if◌then◌else◌, Option, Some, refl, sym, ◌∙◌, ap, subst, arith, length-append, inl, inr}
 use Rattle.std.specs.Prelude.{MatchOption}
 use Rattle.std.specs.List.{AllByRecursion}
+use Rattle.osi_base.proofs.Members.{all_back, all_both, all_front}
 use Rattle.clnp_header.specs.declared.pdu.Pdu.{Pdu}
 use Rattle.clnp_header.specs.declared.pdu.SegmentPart.{SegmentPart}
 use Rattle.clnp_header.specs.Writing.{header_length}
@@ -49,18 +50,6 @@ spread_of : (pdus others : List Pdu) (position octet : ℕ) → Spread (pdus ++ 
 spread_of [] others position octet h = inr h
 spread_of (pdu ∷ pdus) others position octet (inl h) = inl (inl h)
 spread_of (pdu ∷ pdus) others position octet (inr h) = elim (spread_of pdus others position octet h) [ inl k ↦ inl (inr k) | inr k ↦ inr k ]
-
-all_left : (P : Pdu → Type 0) (before rest : List Pdu) → AllByRecursion P (before ++ rest) → AllByRecursion P before
-all_left P [] rest h = tt
-all_left P (x ∷ before) rest h = (h.0, all_left P before rest h.1)
-
-all_right : (P : Pdu → Type 0) (before rest : List Pdu) → AllByRecursion P (before ++ rest) → AllByRecursion P rest
-all_right P [] rest h = h
-all_right P (x ∷ before) rest h = all_right P before rest h.1
-
-all_join : (P : Pdu → Type 0) (before rest : List Pdu) → AllByRecursion P before → AllByRecursion P rest → AllByRecursion P (before ++ rest)
-all_join P [] rest h k = k
-all_join P (x ∷ before) rest h k = (h.0, all_join P before rest h.1 k)
 
 -- where an octet of two lists stands
 data Stands (xs ys : List ℕ) (place octet : ℕ) : Type 0 where
@@ -174,11 +163,11 @@ module _ (unit : List ℕ) (header : ℕ) (key : Key) where
       → (IsSegmentAt unit header key pdu → Kept (pdu ∷ []) pieces) → Kept old new
   among_kept old before pdu rest pieces new old_is new_is are kept =
       let all : Are (before ++ pdu ∷ rest) = subst Are old_is are in
-      let back = all_right (IsSegmentAt unit header key) before (pdu ∷ rest) all in
+      let back = all_back (IsSegmentAt unit header key) before (pdu ∷ rest) all in
       let here = kept back.0 in
       subst (λ (ps : List Pdu). Kept ps new) (sym old_is) (subst (Kept (before ++ pdu ∷ rest)) (sym new_is) (record {
-        are = all_join (IsSegmentAt unit header key) before (pieces ++ rest) (all_left (IsSegmentAt unit header key) before (pdu ∷ rest) all)
-            (all_join (IsSegmentAt unit header key) pieces rest here.are back.1);
+        are = all_both (IsSegmentAt unit header key) before (pieces ++ rest) (all_front (IsSegmentAt unit header key) before (pdu ∷ rest) all)
+            (all_both (IsSegmentAt unit header key) pieces rest here.are back.1);
         spread = λ position octet h. elim (spread_of before (pdu ∷ rest) position octet h) [
           | inl k ↦ spread_left before (pieces ++ rest) position octet k
           | inr k ↦ spread_right before (pieces ++ rest) position octet

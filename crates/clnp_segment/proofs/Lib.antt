@@ -1,6 +1,6 @@
 mod Clashes
 mod Coming
-mod CutRuns
+pub mod CutRuns
 mod Alone
 pub mod Cuttings
 mod Deliveries
@@ -13,7 +13,7 @@ mod Fills
 mod Pieces
 mod Read
 mod Rooms
-mod Slots
+pub mod Slots
 mod Spans
 mod Storing
 mod Stretches

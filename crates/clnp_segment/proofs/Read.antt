@@ -1,20 +1,17 @@
 -- A PDU that was read ends within the initial PDU: the header that is lent is no longer than that of the grammar.
-use Rattle.std.proofs.Common.{◌≡◌, ℕ, ◌+◌, ◌≤◌, Bool, true, false, List, length, take, Option, Some, refl, sym, ◌∙◌, ap, subst, arith, length-append}
+use Rattle.std.proofs.Common.{◌≡◌, ℕ, ◌+◌, ◌≤◌, List, length, take, Option, Some, refl, sym, ◌∙◌, ap, subst, arith, length-append}
 use Rattle.std.specs.Prelude.{MatchOption}
 use Rattle.std.proofs.lemmas.List.{length-take-le}
 use Rattle.pdu_parts.specs.Front.{BeginsWith}
 use Rattle.clnp_header.specs.declared.pdu.PduRef.{PduRef}
 use Rattle.clnp_header.specs.declared.pdu.SegmentPart.{SegmentPart}
-use Rattle.clnp_header.specs.Grammar.{IsPdu, IsPlaced, IsSegment, MayBeSegment}
+use Rattle.clnp_header.specs.Grammar.{IsPdu, IsSegment, MayBeSegment}
 use Rattle.clnp_header.specs.Values.{value_of}
 use Rattle.clnp_header.specs.Writing.{header_length}
 use Rattle.clnp_header.proofs.Parts.{length-header}
 use Rattle.clnp_segment.specs.Laws.{ReadIsHandedOn, ReadMayCome}
 use Rattle.clnp_segment.specs.Store.{FitsIn, MayCome}
-
-placed_below : (more : Bool) (end total : ℕ) → IsPlaced more end total → end ≤ total
-placed_below true end total h = omega (arith, h)
-placed_below false end total h = omega (arith, h)
+use Rattle.clnp_segment.proofs.Cuttings.{placed_below}
 
 segment_there : (segment : Option SegmentPart) (part : SegmentPart) (pdu_length data_length : ℕ) → segment ≡ Some part → MayBeSegment segment pdu_length data_length → IsSegment part pdu_length data_length
 segment_there segment part pdu_length data_length is h = subst (λ (s : Option SegmentPart). MayBeSegment s pdu_length data_length) is h

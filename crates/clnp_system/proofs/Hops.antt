@@ -12,7 +12,7 @@ use Rattle.esis_tables.specs.Told.{Told, is_among}
 use Rattle.esis_tables.specs.Rows.{Rows, find_row, heard_of, heard_table, hop_known, is_least, is_row_known, new_names, addresses, renewed, router_in, row_at, row_of, rows_with}
 
 -- what holds of all holds of the one that is found
-found : {X : Type 0} (P : X → Type 0) (test : X → Bool) (xs : List X) → AllByRecursion P xs → IfSome (find test xs) P
+pub found : {X : Type 0} (P : X → Type 0) (test : X → Bool) (xs : List X) → AllByRecursion P xs → IfSome (find test xs) P
 found P test [] all = tt
 found P test (x ∷ xs) all = by (test x) (found P test xs all.1)
   where

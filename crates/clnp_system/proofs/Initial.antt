@@ -44,7 +44,7 @@ segment_length : (cut : Bool) (id total : ℕ) → length (segment_part (first_s
 segment_length false id total = omega arith
 segment_length true id total = omega arith
 
-same_length : (cut : Bool) (id total other more : ℕ) → length (segment_part (first_segment cut id total)) ≡ length (segment_part (first_segment cut other more))
+pub same_length : (cut : Bool) (id total other more : ℕ) → length (segment_part (first_segment cut id total)) ≡ length (segment_part (first_segment cut other more))
 same_length false id total other more = refl
 same_length true id total other more = refl
 
@@ -57,7 +57,7 @@ pub first_length_is : (setting : Setting) (unit : CarriedUnit (List ℕ)) (wish 
 first_length_is setting unit wish id total = omega (arith, same_length wish.cut id total 0 0)
 
 -- ---- options
-all_of : {X : Type 0} (P : X → Type 0) (xs : List X) → AllByRecursion P xs → All P xs
+pub all_of : {X : Type 0} (P : X → Type 0) (xs : List X) → AllByRecursion P xs → All P xs
 all_of P [] h = All-nil P
 all_of P (x ∷ xs) h = All-cons P x xs h.0 (all_of P xs h.1)
 

@@ -34,6 +34,7 @@ use Rattle.clnp_segment.specs.declared.store.Joined.TheVariants as joined
 use Rattle.osi_base.specs.declared.unit.Up.{Up}
 use Rattle.osi_base.specs.declared.unit.DropCause.{DropCause}
 use Rattle.osi_base.specs.declared.note.HelloKind.{HelloKind}
+use Rattle.osi_base.proofs.Members.{all_both, all_weaker}
 use Rattle.esis_pdu.specs.declared.hello.Hello.TheVariants.{Esh, Ish, Rd}
 use Rattle.clnp_system.specs.Hearing.{HeardBy, HeedsIf, Hears, RedirectedBy, only_note}
 use Rattle.clnp_system.specs.Sending.{IsDropped, IsSent, first_length, first_pdu, first_segment}
@@ -49,6 +50,7 @@ use Rattle.clnp_system.specs.Ticking.{ReportsEach, discarded_unit, expiry_note}
 use Rattle.clnp_system.proofs.Lengths.{onward_length}
 use Rattle.clnp_system.specs.Deriving.{AllCarry, Carries, Derives, DerivesFrom, IsPartOf, IsRun, IsSentFrom, IsSentPart}
 use Rattle.clnp_system.specs.Laws.{Derived, QuietTick, SentAll}
+use Rattle.clnp_system.proofs.Initial.{same_length}
 
 er_no_dt : Er ≡ Dt → ⊥
 er_no_dt e = cc e
@@ -81,10 +83,6 @@ hello_carries P setting to hello frame h pdu has dt =
     let e : 130 ≡ 129 = ap (λ (xs : List ℕ). get_or xs 0 0) (sym h.is_hello.written ∙ has.1.whole) ∙ first in
     absurd (omega (arith, e))
 
-all_on : {X : Type 0} (P : X → Type 0) (xs ys : List X) → AllByRecursion P xs → AllByRecursion P ys → AllByRecursion P (xs ++ ys)
-all_on P [] ys h k = k
-all_on P (x ∷ xs) ys h k = (h.0, all_on P xs ys h.1 k)
-
 module _ (P : Pdu → Type 0) where
   none_carry : (frames : List Frame) → frames ≡ [] → AllCarry frames P
   none_carry frames e = subst (λ (fs : List Frame). AllCarry fs P) (sym e) tt
@@ -115,7 +113,7 @@ module _ (P : Pdu → Type 0) where
     reports_each [] frames h = none_carry frames h
     reports_each (one ∷ others) frames h =
         subst (λ (fs : List Frame). AllCarry fs P) (sym h.4)
-        (all_on (λ frame. Carries frame P) h.0 h.1 (reports_carry (discarded_unit one) h.0 h.2) (reports_each others h.1 h.3))
+        (all_both (λ frame. Carries frame P) h.0 h.1 (reports_carry (discarded_unit one) h.0 h.2) (reports_each others h.1 h.3))
 
   -- ---- hellos
   hellos_carry : (setting : Setting) (ports : List Port) (frames : List Frame) → AreHellos setting ports frames → AllCarry frames P
@@ -136,7 +134,7 @@ notes_only system (one ∷ others) = (tt, notes_only system others)
 pub quiet_tick_is : {N : Type 0} → QuietTick N
 quiet_tick_is tables old now reaction new h = (
   subst (λ (fs : List Frame). AllCarry fs (λ pdu. ⊥)) (sym h.frames)
-      (all_on (λ frame. Carries frame (λ pdu. ⊥)) h.reports h.hellos
+      (all_both (λ frame. Carries frame (λ pdu. ⊥)) h.reports h.hellos
       (reports_each (λ pdu. ⊥) tables new now h.expired h.reports h.are_reports)
       (hellos_if (λ pdu. ⊥) (is_due old.setup now) old.setup h.hellos h.are_hellos)),
   subst (AllByRecursion IsNote) (sym h.told) (notes_only old.setup.system h.expired),
@@ -198,10 +196,6 @@ cuts_are pdu room (Some part) pdus e h =
     subst (AllByRecursion (IsPiece pdu)) (sym h.2) (pieces_are room (header_length pdu) pdu part 0 [] pdu.body h.0 e refl refl h.1)
 
 -- ---- what goes onward
-all_map : {X : Type 0} (P Q : X → Type 0) (xs : List X) → ((x : X) → P x → Q x) → AllByRecursion P xs → AllByRecursion Q xs
-all_map P Q [] f h = tt
-all_map P Q (x ∷ xs) f h = (f x h.0, all_map P Q xs f h.1)
-
 onward_derives : (setting : Setting) (bound : ℕ) (pdu onward out : Pdu) → bound < pdu.lifetime → IsOnward setting bound pdu onward → IsPiece onward out → out.kind ≡ Dt → Derives pdu bound out
 onward_derives setting bound pdu onward out more h piece dt =
     let life : out.lifetime ≡ pdu.lifetime - bound = piece.lifetime ∙ ap (λ (p : Pdu). p.lifetime) h.else_same in
@@ -216,12 +210,12 @@ onward_derives setting bound pdu onward out more h piece dt =
     }
 
 -- the verdict is to go onward only where more lifetime is left than the bound
-not_onward : (test : Bool) (segment : Option SegmentPart) (hop : Hop) → (if test then Discard DestinationUnknown 0 else whole_or_part segment) ≡ Onward hop → ⊥
+pub not_onward : (test : Bool) (segment : Option SegmentPart) (hop : Hop) → (if test then Discard DestinationUnknown 0 else whole_or_part segment) ≡ Onward hop → ⊥
 not_onward true segment hop e = cc e
 not_onward false None hop e = cc e
 not_onward false (Some part) hop e = cc e
 
-this_not_onward : (setting : Setting) (pdu : Pdu) (kind : PduKind) (hop : Hop) → for_this setting pdu kind ≡ Onward hop → ⊥
+pub this_not_onward : (setting : Setting) (pdu : Pdu) (kind : PduKind) (hop : Hop) → for_this setting pdu kind ≡ Onward hop → ⊥
 this_not_onward setting pdu Er hop e = cc e
 this_not_onward setting pdu Dt hop e = not_onward _ pdu.segment hop e
 
@@ -247,9 +241,9 @@ module _ {N : Type 0} (tables : Tables N) (node : Node N) (now : ℕ) (frame : F
       → GoesOnward tables node now frame pdu hop discarded reaction → AllCarry reaction.frames Out
   onward_carries hop discarded reaction more (Sent frames h reaction_is) =
       subst (λ (r : Reaction). AllCarry r.frames Out) (sym reaction_is)
-      (subst (λ (fs : List Frame). AllCarry fs Out) (sym h.6) (all_on (λ frame. Carries frame Out) h.1 h.2
+      (subst (λ (fs : List Frame). AllCarry fs Out) (sym h.6) (all_both (λ frame. Carries frame Out) h.1 h.2
       (frames_carry Out node.setup hop.port h.4.0 h.1 h.4.2
-      (all_map (IsPiece h.0) (λ out. out.kind ≡ Dt → Out out) h.4.0
+      (all_weaker (IsPiece h.0) (λ out. out.kind ≡ Dt → Out out) h.4.0
       (λ out piece dt. (pdu, stands, onward_derives node.setup (bound_of node.setup frame.to.lan) pdu h.0 out more h.3 piece dt))
       (cuts_are h.0 (room_of node.setup hop.port.lan) h.0.segment h.4.0 refl h.4.1)))
       (to_sender_carry Out (is_detour frame.from frame.to hop) node.setup (sender frame.from frame.to) _ h.2 h.5)))
@@ -311,10 +305,6 @@ derived_is tables old now frame reaction new (BadHello own fault port first is e
 derived_is tables old now frame reaction new (HearsHello own heard rest port begins hears) = hears_carries _ tables old now (sender frame.from frame.to) heard.hello reaction new hears
 
 -- ---- what is sent
-same_six : (cut : Bool) (id total other more : ℕ) → length (segment_part (first_segment cut id total)) ≡ length (segment_part (first_segment cut other more))
-same_six false id total other more = refl
-same_six true id total other more = refl
-
 sent_part : (cut : Bool) (id total header : ℕ) (unit : CarriedUnit (List ℕ)) (pdu : Pdu) (segment : Option SegmentPart) → total ≡ header + length unit.octets → header_length pdu ≡ header
     → IsPartOf (first_segment cut id total) segment unit.octets pdu.body → (is_segment segment ≡ cut) × IsSentPart id header unit pdu segment
 sent_part false id total header unit pdu None whole same h = (refl, h)
@@ -327,7 +317,7 @@ sent_from : {N : Type 0} (node : Node N) (unit : CarriedUnit (List ℕ)) (wish :
 sent_from node unit wish out piece =
     let first = first_pdu node.setup unit wish node.next_id in
     let whole : first_length node.setup unit wish ≡ header_length first + length unit.octets =
-    omega (arith, same_six wish.cut 0 0 node.next_id (first_length node.setup unit wish)) in
+    omega (arith, same_length wish.cut 0 0 node.next_id (first_length node.setup unit wish)) in
     let parted : (is_segment out.segment ≡ wish.cut) × IsSentPart node.next_id (header_length first) unit out out.segment =
     sent_part wish.cut node.next_id (first_length node.setup unit wish) (header_length first) unit out out.segment whole piece.header piece.part in
     record { source = piece.source; destination = piece.destination; lifetime = piece.lifetime; cut = parted.0; part = parted.1 }
@@ -347,5 +337,5 @@ sent_is tables old now unit wish frames new (IsSent hop found why out is after) 
     let first = first_pdu old.setup unit wish old.next_id in
     subst (λ (fs : List Frame). AllCarry fs (IsSentFrom old unit wish)) (sym (frames_same frames found is))
     (frames_carry (IsSentFrom old unit wish) old.setup hop.port out.0 found out.2
-    (all_map (IsPiece first) (λ pdu. pdu.kind ≡ Dt → IsSentFrom old unit wish pdu) out.0 (λ pdu piece dt. sent_from old unit wish pdu piece)
+    (all_weaker (IsPiece first) (λ pdu. pdu.kind ≡ Dt → IsSentFrom old unit wish pdu) out.0 (λ pdu piece dt. sent_from old unit wish pdu piece)
     (cuts_are first (room_of old.setup hop.port.lan) first.segment out.0 refl out.1)))

@@ -1,5 +1,5 @@
 -- What goes onward may be written: each option keeps its code and the form of its value, so the options stay allowed, and the header keeps its length.
-use Rattle.std.proofs.Common.{◌≡◌, ◌⊎◌, ℕ, Bool, true, ◌+◌, ◌<◌, ◌≤◌, All, List, [], ◌∷◌, ◌++◌, length, map, slice_get, take, Option, Some, None, refl, sym, ◌∙◌, ap, subst, append_assoc, inl, inr, arith, length-append}
+use Rattle.std.proofs.Common.{◌≡◌, ◌⊎◌, ℕ, Bool, true, ◌+◌, ◌<◌, ◌≤◌, All, List, [], ◌∷◌, ◌++◌, length, slice_get, take, Option, Some, None, refl, sym, ◌∙◌, ap, subst, append_assoc, inl, inr, arith, length-append}
 use Rattle.std.specs.List.{AllByRecursion}
 use Rattle.std.proofs.lemmas.List.Elements.{All-append, All-cons, All-head, All-nil}
 use Rattle.nsap.specs.declared.port.Port.{Port}
@@ -21,9 +21,10 @@ use Rattle.clnp_header.specs.declared.pdu.PduRef.{PduRef}
 use Rattle.clnp_header.specs.declared.pdu.SegmentPart.{SegmentPart}
 use Rattle.clnp_header.specs.Flags.{AreFlags}
 use Rattle.clnp_header.specs.Grammar.{IsPdu, MayBeSegment}
-use Rattle.clnp_header.specs.Values.{own, parameter, parameters}
+use Rattle.clnp_header.specs.Values.{parameter, parameters}
 use Rattle.clnp_header.specs.Writing.{HasKind, header_length, pdu_length}
 use Rattle.clnp_header.proofs.Parts.{length-header}
+use Rattle.clnp_header.proofs.Found.{parameters_again}
 use Rattle.clnp_segment.specs.Cutting.{Cuts, MayGo, piece_of}
 use Rattle.clnp_segment.specs.Laws.{CutsWritable}
 use Rattle.clnp_system.specs.Setting.{Setting}
@@ -34,6 +35,7 @@ use Rattle.clnp_system.specs.Reporting.{report_pdu}
 use Rattle.clnp_system.specs.Forwarding.{AreOptionsOnward, IsOnward, IsOptionOnward, Records, Routed, Recorded, Other, Written, Full, Ended, past_own}
 use Rattle.clnp_system.proofs.Lengths.{onward_length, recorded_length}
 use Rattle.clnp_system.proofs.Passing.{take_snoc}
+use Rattle.clnp_system.proofs.Initial.{all_of}
 
 -- one frame more
 frames_snoc : (setting : Setting) (to : Port) (pdus : List Pdu) (frames : List Frame) (pdu : Pdu) (frame : Frame) → IsPduFrame setting to pdu frame
@@ -134,16 +136,8 @@ module _ (setting : Setting) (titled : IsAddress setting.title) where
       }
 
 -- ---- a PDU that was read
-pub parameters_own : (options : List Parameter) → parameters (map own options) ≡ options
-parameters_own [] = refl
-parameters_own (option ∷ options) = ap (λ (os : List Parameter). option ∷ os) (parameters_own options)
-
 pub read_known : (pdu : PduRef) → WasRead pdu → All (IsKnown pdu.kind) (listed pdu.options)
-read_known pdu h = subst (λ (os : List Parameter). All (IsKnown pdu.kind) os) (parameters_own (listed pdu.options)) h.1.1.stands.options_part.allowed.known
-
-all_of : {X : Type 0} (P : X → Type 0) (xs : List X) → AllByRecursion P xs → All P xs
-all_of P [] h = All-nil P
-all_of P (x ∷ xs) h = All-cons P x xs h.0 (all_of P xs h.1)
+read_known pdu h = subst (λ (os : List Parameter). All (IsKnown pdu.kind) os) (parameters_again (listed pdu.options)) h.1.1.stands.options_part.allowed.known
 
 may_go : (room : ℕ) (pdus : List Pdu) → room ≤ 1497 → AllByRecursion (MayGo room) pdus → AllByRecursion MayBeWritten pdus
 may_go room [] most h = tt

@@ -20,7 +20,7 @@ use Rattle.cltp.specs.Systems.{World, system_at}
 use Rattle.cltp.specs.Writing.{IsWritten}
 use Rattle.cltp.specs.steps.TakingUp.{SettlesSo}
 
-takes_first : (takes others : Bool) → IsTrue (takes && others) → IsTrue takes
+pub takes_first : (takes others : Bool) → IsTrue (takes && others) → IsTrue takes
 takes_first true others h = refl
 takes_first false others h = h
 

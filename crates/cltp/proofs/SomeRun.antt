@@ -1,7 +1,7 @@
 -- A call that a network of users may be asked has its events: a UD can be written and is offered, what waits can be taken up, each unit among it
 -- gives its event, and fresh pairs are delivered until none is left or the count is full.
 use Rattle.std.proofs.Common.{◌≡◌, ℕ, zero, suc, ◌+◌, ◌*◌, ◌-◌, ◌%◌, ◌<◌, Bool, true, false, nat_lt, List, [], ◌∷◌, ◌++◌, length, sum, reverse, Option, Some, None, refl, ◌∙◌, subst, inl, inr, arith}
-use Rattle.std.specs.Prelude.{◌&&◌, not, IsTrue}
+use Rattle.std.specs.Prelude.{not, IsTrue}
 use Rattle.std.proofs.lemmas.Bool.{cases_eq}
 use Rattle.osi_base.specs.Fletcher.{place_sum}
 use Rattle.osi_base.proofs.FletcherPair.{seals_pair}
@@ -35,6 +35,7 @@ use Rattle.cltp.specs.Ud.{Ud, IsSelector}
 use Rattle.cltp.specs.Writing.{IsWritten}
 use Rattle.cltp.proofs.Hearings.{one_hearing}
 use Rattle.cltp.proofs.Written.{before_sum, whole_at}
+use Rattle.cltp.proofs.Arrivals.{takes_first}
 
 -- ---- a UD can be written
 
@@ -88,10 +89,6 @@ heard_some systems (Came arrival ∷ ups) =
     let here = one_hearing.some systems arrival in
     let rest = heard_some systems ups in
     (here.0 ++ rest.0, (here.0, rest.0, here.1, rest.1, refl))
-
-fresh_taken : (takes others : Bool) → IsTrue (takes && others) → IsTrue takes
-fresh_taken true others h = refl
-fresh_taken false others h = h
 
 module _ {C : Type 0} (link : C → Link (List ℕ)) (steps : C → Call (List ℕ) → C → Type 0) (keeps : (old : C) (call : Call (List ℕ)) (new : C) → steps old call new → Keeps (link old) call (link new))
     (is_address : List ℕ → Bool) (Stands : C → Type 0) (serves : Serves is_address link steps Stands) where
@@ -193,7 +190,7 @@ module _ {C : Type 0} (link : C → Link (List ℕ)) (steps : C → Call (List �
   ends_next fuel next count old None is full stands = ends_none count old is stands
   ends_next fuel next count old (Some pair) is full stands =
       let d = delivered old pair.0 pair.1 stands in
-      let answer : d.answer ≡ WasPicked = d.picked (fresh_taken ((link old.carrier).takes pair.0 pair.1) (not ((link old.carrier).took pair.0 pair.1)) is.0) in
+      let answer : d.answer ≡ WasPicked = d.picked (takes_first ((link old.carrier).takes pair.0 pair.1) (not ((link old.carrier).took pair.0 pair.1)) is.0) in
       let here = subst (λ (a : Picked). Makes old (Delivers link steps old pair.0 pair.1 a)) answer d.makes in
       let rest = next (count + 1) here.new (omega (arith, full)) here.stands in
       record {

@@ -7,6 +7,7 @@ use Rattle.osi_base.specs.Calls.{Call, NextUp, TakesUp as HandsUp}
 use Rattle.osi_base.proofs.Gatherings.{Gathering, gathering_next, gathered}
 use Rattle.osi_base.proofs.Standings.{stands_same}
 use Rattle.net_world.specs.Told.{told, up_events}
+use Rattle.net_world.proofs.Taking.{told_last}
 use Rattle.script_journal.specs.declared.event.Event.{Event}
 use Rattle.cltp.specs.declared.system.ClSystem.{ClSystem}
 use Rattle.cltp.specs.Hearing.{HearsAll}
@@ -20,10 +21,6 @@ pub record Taking {C : Type 0} (link : C → Link (List ℕ)) (steps : C → Cal
   pub gathering : Gathering link steps old ups new
   pub told_is : after ≡ before ++ told ups
   pub hears : HearsAll systems ups heard
-
-told_last : (ups : List (Up (List ℕ))) (up : Up (List ℕ)) → told (ups ++ up ∷ []) ≡ told ups ++ up_events up
-told_last [] up = append-nil (up_events up)
-told_last (first ∷ ups) up = ap (λ (rest : List Event). up_events first ++ rest) (told_last ups up) ∙ sym (append_assoc (up_events first) (told ups) (up_events up))
 
 module _ {C : Type 0} (link : C → Link (List ℕ)) (steps : C → Call (List ℕ) → C → Type 0) (systems : List ClSystem) where
   pub none_taken : (old : C) (before heard : List Event) → heard ≡ [] → Taking link steps systems old before before heard old

@@ -20,17 +20,11 @@ use Rattle.esis_tables.specs.Told.{is_among, is_upto}
 use Rattle.esis_tables.specs.Rows.{AreDistinct, IsTable, addresses, is_least, is_router, precedes, router_in}
 use Rattle.esis_tables.specs.steps.Least.{IsLeastOf, IsLeastRouter, IsRouterHop, is_before, is_lesser}
 
-compared : List ℕ → List ℕ → Ordering
-compared first second = slice_cmp nat_cmp first second
-
 -- the order of titles
 upto_itself : (title : List ℕ) → is_upto title title ≡ true
 upto_itself title = ap (λ (o : Ordering). not (is_gt o)) (tied_itself nat_list_cmp_total title)
 
-not_greater : (o : Ordering) → not (is_gt o) ≡ true → is_gt o ≡ false
-not_greater o is = not-true (is_gt o) is
-
-upto_upto : (first second third : List ℕ) → is_upto first second ≡ true → is_upto second third ≡ true → is_upto first third ≡ true
+pub upto_upto : (first second third : List ℕ) → is_upto first second ≡ true → is_upto second third ≡ true → is_upto first third ≡ true
 upto_upto first second third one two =
     ap not (upto nat_list_cmp_total first second third (not-true (is_gt (slice_cmp nat_cmp first second)) one)
     (not-true (is_gt (slice_cmp nat_cmp second third)) two))

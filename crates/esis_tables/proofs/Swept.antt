@@ -9,6 +9,7 @@ use Rattle.std.proofs.lemmas.Bool.{or_left, or_right, or_parts}
 use Rattle.std.proofs.lemmas.List.{append-nil, length-map}
 use Rattle.std.proofs.lemmas.List.Elements.{All-contains, All-nil, All-weaker, Contains-append_left, Contains-append_right, Contains-push}
 use Rattle.std.proofs.lemmas.List.Folds.{list_any_none}
+use Rattle.osi_base.proofs.Searches.{same_bool}
 use Rattle.esis_tables.specs.declared.holding_time.Heard.{Heard}
 use Rattle.esis_tables.specs.declared.holding_time.Row.{Row}
 use Rattle.esis_tables.specs.Told.{Told, is_among, is_known, known_hop, known_of, latest, or_this}
@@ -26,11 +27,6 @@ use Rattle.esis_tables.proofs.Sweeping.{table_filter}
 
 abbrev Name : Type 0
 Name = List ℕ
-
-same_bool : (a b : Bool) → (a ≡ true → b ≡ true) → (b ≡ true → a ≡ true) → a ≡ b
-same_bool true b there back = sym (there refl)
-same_bool false true there back = back refl
-same_bool false false there back = refl
 
 clash : {b : Bool} → b ≡ true → b ≡ false → ⊥
 clash h k = absurd cc

@@ -1,6 +1,6 @@
 -- Each frame is found through the index, and stays in it until it is late.
 use Rattle.std.proofs.Common.{◌≡◌, ◌∙◌, inl, inr, ℕ, zero, suc, ◌+◌, ◌*◌, ◌%◌, ◌<◌, ◌≤◌, Bool, true, false, List, [], ◌∷◌, ◌++◌, length, length-append, map, slice_get, Option, Some, None, set, refl, sym, ap, subst, arith}
-use Rattle.std.specs.Prelude.{◌&&◌, ◌||◌, ◌==◌, nat_eq, cond, nat_lt}
+use Rattle.std.specs.Prelude.{◌&&◌, ◌||◌, ◌==◌, nat_eq}
 use Rattle.std.specs.BTreeSet.{BTreeSet, UpdatesBy, contains, keys_between}
 use Rattle.std.specs.BTreeMap.Range.{range_contains}
 use Rattle.std.specs.Cmp.Lexicographic.{pointwise}
@@ -11,11 +11,13 @@ use Rattle.std.proofs.lemmas.Bool.Decides.{nat_tests, eqb_tells}
 use Rattle.std.proofs.lemmas.Option.{slice_get_within}
 use Rattle.std.proofs.lemmas.Map.Views.{any-filter_same}
 use Rattle.osi_base.specs.declared.unit.Unit.{Unit as CarriedUnit}
+use Rattle.osi_base.proofs.Searches.{at_code, same_bool}
 use Rattle.nsap.specs.declared.port.Port.{Port}
 use Rattle.lan_step.specs.declared.row.Lan.{Lan}
 use Rattle.lan_step.specs.Rows.{same_port}
 use Rattle.lan_step.specs.Frames.{Frame, kept, kept_at, is_live, is_of, carries_live, marked, marked_frame, marked_at}
 use Rattle.lan_step.proofs.Places.{push_cases, set_same, set_other, kept_places, kept_was}
+use Rattle.lan_step.proofs.Offering.{some_kept}
 use Rattle.lan_bag.specs.steps.Index.{AreIndexed, AreIndexedTo, carries_at, code_of, key_of, sum_from}
 use Rattle.lan_bag.proofs.Wheels.{kept_live, past_last}
 
@@ -51,16 +53,11 @@ at_any p (x ∷ xs) (suc place) one at h = or_true (p x) (list_any p xs) (at_any
 any_weaker : {A : Type 0} (p q : A → Bool) (xs : List A) → ((x : A) → p x ≡ true → q x ≡ true) → list_any p xs ≡ true → list_any q xs ≡ true
 any_weaker p q xs weaker h = let r = any_at p xs h in at_any q xs r.place r.one r.at (weaker r.one r.passes)
 
-same_bool : (a b : Bool) → (a ≡ true → b ≡ true) → (b ≡ true → a ≡ true) → a ≡ b
-same_bool true b h k = sym (h refl)
-same_bool false true h k = k refl
-same_bool false false h k = refl
-
-and_first : (a b : Bool) → (a && b) ≡ true → a ≡ true
+pub and_first : (a b : Bool) → (a && b) ≡ true → a ≡ true
 and_first true b h = refl
 and_first false b h = absurd cc
 
-and_second : (a b : Bool) → (a && b) ≡ true → b ≡ true
+pub and_second : (a b : Bool) → (a && b) ≡ true → b ≡ true
 and_second true b h = h
 and_second false b h = absurd cc
 
@@ -105,23 +102,11 @@ same_key unit frame h =
 
 -- ---- the search
 
-at_code : (code k : ℕ) → is_eq (nat_cmp code k) ≡ true → k ≡ code
-at_code code k h = by_less (nat_lt code k) (nat_eq code k) refl h
-  where
-    by_less : (less same : Bool) → nat_eq code k ≡ same → is_eq (cond less Rattle.std.specs.declared.cmp.Ordering.TheVariants.Less (cond same Rattle.std.specs.declared.cmp.Ordering.TheVariants.Equal Rattle.std.specs.declared.cmp.Ordering.TheVariants.Greater)) ≡ true → k ≡ code
-    by_less true same is h = absurd cc
-    by_less false true is h = grind (arith, nat_tests, is)
-    by_less false false is h = absurd cc
-
 in_range : (low high k : ℕ) → low ≤ k → k ≤ high → range_contains nat_cmp (Included low) (Included high) k ≡ true
 in_range low high k from to = grind (arith, nat_tests, from, to)
 
 place_of : (key place : ℕ) → place < 4294967296 → (key * 4294967296 + place) % 4294967296 ≡ place
 place_of key place low = omega (arith, low)
-
-kept_some : (slot : Option (Option Frame)) (frame : Frame) → kept slot ≡ Some frame → slot ≡ Some (Some frame)
-kept_some None frame h = absurd cc
-kept_some (Some other) frame h = ap Some h
 
 pub searched : (s : BTreeSet ℕ) (clock : ℕ) (lans : List Lan) (frames : List (Option Frame)) (unit : CarriedUnit Port) → length frames ≤ 4294967295 → AreIndexed (contains nat_cmp s) frames
     → list_any (carries_at clock lans unit frames) (keys_between nat_cmp (Included (key_of unit * 4294967296)) (Included (key_of unit * 4294967296 + 4294967295)) s) ≡ list_any (carries_live clock lans unit) frames
@@ -184,7 +169,7 @@ indexed_pushed has frames after frame place last is h = record { at = λ k other
     count = ap length is ∙ (length-append frames (Some frame ∷ []) ∙ ap (λ (n : ℕ). n + 1) (sym last))
 
     low : (k : ℕ) (other : Frame) → kept (slice_get after k) ≡ Some other → k < place + 1
-    low k other here = let within = slice_get_within after k (Some other) (kept_some (slice_get after k) other here) in omega (arith, within, count)
+    low k other here = let within = slice_get_within after k (Some other) (some_kept (slice_get after k) other here) in omega (arith, within, count)
 
 -- a frame that was taken
 indexed_marked_at : (has : ℕ → Bool) (frames : List (Option Frame)) (i system : ℕ) (o : Option (Option Frame)) → slice_get frames i ≡ o → AreIndexed has frames → AreIndexed has (marked_frame frames i system (kept o))
@@ -223,7 +208,7 @@ indexed_without s n clock lans frames late place few at gone updates h = record 
     not_true false never = refl
 
     within : (k : ℕ) (frame : Frame) → kept (slice_get frames k) ≡ Some frame → k < length frames
-    within k frame here = slice_get_within frames k (Some frame) (kept_some (slice_get frames k) frame here)
+    within k frame here = slice_get_within frames k (Some frame) (some_kept (slice_get frames k) frame here)
 
     apart : (k key other : ℕ) → k < 4294967296 → place < 4294967296 → code_of key k ≡ code_of other place → k ≡ place
     apart k key other low small same = sym (place_of key k low) ∙ (ap (λ (n : ℕ). n % 4294967296) same ∙ place_of other place small)

@@ -17,6 +17,7 @@ use Rattle.lan_step.specs.Frames.{Frame, has_taken, is_live, is_taken}
 use Rattle.lan_bag.specs.steps.Openings.{is_free_to, is_open_to, is_open_at, IsLeastAt}
 use Rattle.lan_bag.proofs.Openings.{IsLeastAmong, any_less, none_each, open_nowhere}
 use Rattle.lan_bag.specs.steps.Setting.{AreOfLans, rows_on}
+use Rattle.lan_bag.proofs.Indices.{and_first as first, and_second as second}
 
 pub any_on : (test : PortRow → Bool) (lan : ℕ) → ((row : PortRow) → test row ≡ true → (row.port.lan == lan) ≡ true) → (some all : List PortRow) → rows_on some lan ≡ rows_on all lan → list_any test some ≡ list_any test all
 any_on test lan only some all same =
@@ -65,15 +66,7 @@ both true true c h = refl
 both true false c h = cc
 both false b c h = cc
 
-second : (a b : Bool) → (a && b) ≡ true → b ≡ true
-second true b h = h
-second false b h = cc
-
-first : (a b : Bool) → (a && b) ≡ true → a ≡ true
-first true b h = refl
-first false b h = cc
-
-second_shut : (a b : Bool) → b ≡ false → (a && b) ≡ false
+pub second_shut : (a b : Bool) → b ≡ false → (a && b) ≡ false
 second_shut true b h = h
 second_shut false b h = refl
 

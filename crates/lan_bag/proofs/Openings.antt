@@ -13,6 +13,7 @@ use Rattle.lan_step.specs.declared.row.PortRow.{PortRow}
 use Rattle.lan_step.specs.Receivers.{is_one_of, goes_to}
 use Rattle.lan_step.specs.Frames.{Frame, kept, frame_of, has_taken, is_live, is_taken, picked_of, kept_at, marked, marked_at, marked_frame}
 use Rattle.lan_bag.specs.steps.Openings.{is_open_to, is_open_at, is_open, IsClosedTo, IsFirstOpen, IsFreshAt, IsLeastAt, IsLeastOpen, IsPairAt, lesser_of}
+use Rattle.lan_bag.proofs.Indices.{and_second as opens}
 use Rattle.lan_step.proofs.Places.{push_last, set_same, set_other, kept_places, marked_by, takes_in, takes_at}
 use Rattle.lan_step.specs.Bag.{Bag, link_of, took_by}
 use Rattle.osi_base.specs.Link.{is_fresh, IsUpTo, IsLeastFresh}
@@ -115,7 +116,7 @@ pub closed_marked : (clock : ℕ) (lans : List Lan) (rows : List PortRow) (frame
 closed_marked clock lans rows frames place zero system f k lt = f.before k lt
 closed_marked clock lans rows frames place (suc i) system f k lt = marked_closed clock lans rows frames i system k (slice_get frames i) refl (f.before k lt)
 
-less_sooner : (clock : ℕ) (lans : List Lan) (rows : List PortRow) (frame : Frame) (system : ℕ) → is_open_to clock lans rows frame system ≡ false → is_open_to (clock + 1) lans rows frame system ≡ false
+pub less_sooner : (clock : ℕ) (lans : List Lan) (rows : List PortRow) (frame : Frame) (system : ℕ) → is_open_to clock lans rows frame system ≡ false → is_open_to (clock + 1) lans rows frame system ≡ false
 less_sooner clock lans rows frame system h = grind (arith, nat_tests)
 
 tick_closes : (clock : ℕ) (lans : List Lan) (rows : List PortRow) (slot : Option Frame) → is_open clock lans rows slot ≡ false → is_open (clock + 1) lans rows (kept_at (clock + 1) lans slot) ≡ false
@@ -284,10 +285,6 @@ least_fresh bag place frame least f at l = (one_fresh, upward)
 -- a frame that is open to no system is no open one
 pub shut : (clock : ℕ) (lans : List Lan) (rows : List PortRow) (frame : Frame) → IsLeastOpen clock lans rows frame None → is_open clock lans rows (Some frame) ≡ false
 shut clock lans rows frame h = none_open clock lans rows frame h rows
-
-opens : (a b : Bool) → (a && b) ≡ true → b ≡ true
-opens true b h = h
-opens false b h = cc
 
 -- one row more among those that were looked at
 pub among_more : (clock : ℕ) (lans : List Lan) (all : List PortRow) (frame : Frame) (rows : List PortRow) (i : ℕ) (row : PortRow) (least : Option ℕ) → i < length rows → row ≡ get_or rows i row → IsLeastAmong clock lans all frame (take i rows) least → is_open_at clock lans all frame row ≡ true → IsLeastAmong clock lans all frame (take (i + 1) rows) (Some (lesser_of least row.system))

@@ -25,7 +25,7 @@ offer_grows frames frame entry h = grows_at frames frame entry (floats (frames +
           | inr last ↦ let e : frame ≡ f.frame = cc (ap kept last.1, f.at) in inr (f.is ∙ ap (λ (g : Frame). (g.tick, g.unit)) (sym e))
         ]
 
-some_kept : (slot : Option (Option Frame)) (frame : Frame) → kept slot ≡ Some frame → slot ≡ Some (Some frame)
+pub some_kept : (slot : Option (Option Frame)) (frame : Frame) → kept slot ≡ Some frame → slot ≡ Some (Some frame)
 some_kept None frame h = cc
 some_kept (Some None) frame h = cc
 some_kept (Some (Some other)) frame h = ap (λ (f : Option Frame). Some f) h

@@ -3,12 +3,12 @@ use Rattle.std.proofs.Common.{◌≡◌, ℕ, false, List, [], ◌++◌, refl, s
 use Rattle.std.proofs.lemmas.List.Elements.{All-append, All-cons, All-nil}
 use Rattle.script_journal.specs.Lawful.{Marked, shown, submitted}
 use Rattle.script_journal.specs.declared.event.Event.{Event as JournalEvent}
+use Rattle.script_journal.proofs.Showing.{shown_both, submitted_both}
 use Rattle.tp4_number.specs.Number.{whole}
 use Rattle.tp4_flow.specs.declared.step.EndEvent.{EndEvent}
 use Rattle.tp4_conn.specs.End.{End, Moved}
 use Rattle.tp4_conn.specs.Table.{Event, stepped}
 use Rattle.law_tp4_history.specs.Journals.{IsAside, MakesNone, makes_end}
-use Rattle.law_tp4_history.proofs.Appended.{shown-append, submitted-append}
 use Rattle.law_tp4_history.specs.Lines.{given, shown_in}
 use Rattle.tp4_world.specs.Telling.{ends_after, events_after}
 use Rattle.tp4_world.specs.World.{latest}
@@ -64,7 +64,7 @@ aside_of_no_end ends system address told aside of_none quiet =
       ends_are = t.ends_are;
       none = All-append (λ (event : JournalEvent). makes_end event ≡ false) lines aside t.none quiet.ends;
       silent = λ n. record {
-        gave = submitted-append n lines aside ∙ ap (λ (us : List Marked). us ++ submitted n aside) (t.silent n).gave ∙ (quiet.units n).0;
-        showed = shown-append n lines aside ∙ ap (λ (us : List Marked). us ++ shown n aside) (t.silent n).showed ∙ (quiet.units n).1;
+        gave = submitted_both n lines aside ∙ ap (λ (us : List Marked). us ++ submitted n aside) (t.silent n).gave ∙ (quiet.units n).0;
+        showed = shown_both n lines aside ∙ ap (λ (us : List Marked). us ++ shown n aside) (t.silent n).showed ∙ (quiet.units n).1;
       };
     }

@@ -1,7 +1,6 @@
 -- A network before its first line has no association; and what each step keeps holds after all of them.
-use Rattle.std.proofs.Common.{◌≡◌, ℕ, zero, suc, ◌==◌, ◌-◌, Bool, true, false, if◌then◌else◌, List, [], ◌∷◌, ◌++◌, slice_get, Option, Some, None, refl, sym, ◌∙◌, ap, subst, append-nil, append_assoc, arith}
+use Rattle.std.proofs.Common.{◌≡◌, ℕ, ◌==◌, ◌-◌, Bool, true, false, if◌then◌else◌, List, [], ◌++◌, slice_get, Option, Some, None, refl, sym, ◌∙◌, ap, subst, append-nil, append_assoc, arith}
 use Rattle.std.specs.Prelude.{unwrap_or}
-use Rattle.std.specs.List.{AllByRecursion}
 use Rattle.std.proofs.lemmas.Option.{slice_get_within, get_or_from_slice_get}
 use Rattle.nsap.specs.Address.{system_part}
 use Rattle.nsap.proofs.AddressLemmas.{system_part-append}
@@ -9,7 +8,6 @@ use Rattle.osi_base.specs.declared.unit.Unit.{Unit as CarriedUnit}
 use Rattle.script_journal.specs.declared.event.Event.{Event}
 use Rattle.script_journal.specs.declared.event.Event.TheVariants as events
 use Rattle.script_journal.specs.declared.event.Indication.{Indication}
-use Rattle.tp4_conn.specs.End.{End}
 use Rattle.tp4_conn.specs.declared.timers.Timers.{Timers}
 use Rattle.tp4_entity.specs.Entity.{Entity, end_at, there}
 use Rattle.law_tp4_history.specs.Journals.{IsAside, MakesNone, makes_end}
@@ -23,12 +21,7 @@ use Rattle.law_calm_run.specs.Run.{IsStart}
 use Rattle.law_calm_run.proofs.Hall.{AreAllProper, Done, Goes, Hall, More, Step}
 use Rattle.law_calm_run.proofs.Story.{Numbers, Story, address_of}
 use Rattle.law_calm_run.proofs.Continuing.{none_some}
-use Rattle.law_tp4_lawful.proofs.WorldStarts.{found}
-
-none_there : (ends : List (Option End)) → AllByRecursion (λ place. place ≡ None) ends → (n : ℕ) → there (slice_get ends n) ≡ None
-none_there [] none n = refl
-none_there (place ∷ ends) none zero = ap (λ (p : Option End). there (Some p)) none.0
-none_there (place ∷ ends) none (suc n) = none_there ends none.1 n
+use Rattle.law_tp4_lawful.proofs.WorldStarts.{found, none_there}
 
 none_at : (e : Entity) (reference : ℕ) → HasNoEnd e → end_at e reference ≡ None
 none_at e reference none = by (reference == 0)

@@ -18,10 +18,11 @@ use Rattle.law_tp4_pair.specs.Pair.{Accepts}
 use Rattle.law_tp4_pair.specs.Standing.{HasLeft}
 use Rattle.tp4_world.specs.declared.place.EndAt.{EndAt}
 use Rattle.law_tp4_associations.specs.Association.{Association, post, waiting, with_party}
+use Rattle.law_tp4_associations.proofs.Spots.{waiting_post}
 use Rattle.law_calm_run.proofs.Story.{AreOpening, IsRunning, IsYoung, Numbers, Tells}
 use Rattle.law_calm_run.proofs.Continuing.{none_some, some_same}
 use Rattle.law_calm_run.proofs.Pairing.{running_begins, running_called, running_calling, running_stays}
-use Rattle.law_calm_run.proofs.Stepping.{two_sides, waiting_other, waiting_own, waiting_side}
+use Rattle.law_calm_run.proofs.Stepping.{two_sides, waiting_other, waiting_side}
 use Rattle.law_calm_run.proofs.Storying.{tells_acted}
 use Rattle.law_calm_run.proofs.Telling.{ActsIn}
 use Rattle.law_calm_run.proofs.Young.{row_answers, row_from}
@@ -69,7 +70,7 @@ module _ (own : ℕ → List ℕ) (now : ℕ) (ends : List EndAt) (all : List As
           let goes = running_calling journal made now c d end y call apart (t.pairs k a end y c d is end_is y_is c_is d_is before) may
           (subst (λ (i : ℕ). ActsIn i made (given (Called call)) (shown_in M.events) M.events) c_n acts) in
           subst (λ (e : End). IsRunning (journal ++ made) now c d e y (waiting k true (post k true M.tpdus)) (waiting k false (post k true M.tpdus))) x_same
-          (subst (λ (l : List Sent). IsRunning (journal ++ made) now c d (end_of M) y l (waiting k false (post k true M.tpdus))) (sym (waiting_own k true M.tpdus))
+          (subst (λ (l : List Sent). IsRunning (journal ++ made) now c d (end_of M) y l (waiting k false (post k true M.tpdus))) (sym (waiting_post k true M.tpdus))
           (subst (λ (l : List Sent). IsRunning (journal ++ made) now c d (end_of M) y M.tpdus l) (sym (waiting_side k true M.tpdus)) goes))
 
   -- on the called end
@@ -107,4 +108,4 @@ module _ (own : ℕ → List ℕ) (now : ℕ) (ends : List EndAt) (all : List As
           let goes = goes_on x c d x_is c_is d_is (some_same n d (sym n_is ∙ d_is)) open_there (answers end.stage) in
           subst (λ (e : End). IsRunning (journal ++ made) now c d x e (waiting k true (post k false M.tpdus)) (waiting k false (post k false M.tpdus))) y_same
           (subst (λ (l : List Sent). IsRunning (journal ++ made) now c d x (end_of M) l (waiting k false (post k false M.tpdus))) (sym (waiting_side k false M.tpdus))
-          (subst (λ (l : List Sent). IsRunning (journal ++ made) now c d x (end_of M) [] l) (sym (waiting_own k false M.tpdus)) goes))
+          (subst (λ (l : List Sent). IsRunning (journal ++ made) now c d x (end_of M) [] l) (sym (waiting_post k false M.tpdus)) goes))

@@ -17,12 +17,13 @@ use Rattle.law_tp4_history.specs.Lines.{shown_in}
 use Rattle.tp4_world.specs.declared.place.EndAt.{EndAt}
 use Rattle.law_tp4_associations.specs.Association.{Association, Posted, post, waiting, with_party}
 use Rattle.law_tp4_associations.specs.Phase.{IsInUse}
+use Rattle.law_tp4_associations.proofs.Spots.{waiting_then}
 use Rattle.law_calm_run.proofs.Story.{AreOpening, HasNoUnits, HasTicked, IsClocking, IsRunning, IsYoung, Numbers, Tells}
 use Rattle.law_calm_run.proofs.Calling.{Answers, Nobodys, Partners, Users, answers}
 use Rattle.law_calm_run.proofs.Continuing.{some_same}
 use Rattle.law_calm_run.proofs.Pairing.{clocking_begins, clocking_ends, ticked_now, ticked_stays}
 use Rattle.law_calm_run.proofs.Passing.{all_stay, none_more}
-use Rattle.law_calm_run.proofs.Stepping.{own_behind, side_behind, two_sides, waiting_append, waiting_other}
+use Rattle.law_calm_run.proofs.Stepping.{own_behind, side_behind, two_sides, waiting_other}
 use Rattle.law_calm_run.proofs.Storying.{linked_on, tells_acted}
 use Rattle.law_calm_run.proofs.Telling.{ActsIn}
 use Rattle.law_calm_run.proofs.Young.{row_answers, row_from}
@@ -96,7 +97,7 @@ module _ (own : ℕ → List ℕ) (now : ℕ) (ends : List EndAt) (all : List As
       → ActsIn n made [] (shown_in M.events) M.events → Tells IsClocking own now ends (slice_set all k (with_party a true place)) (queue ++ post k true M.tpdus) number (journal ++ made)
   tells_calling_tick end_is n_is place_is over acts =
       tells_acted IsClocking clocking_stays own now ends all queue number journal t k a true end n is end_is n_is Ticked tt place place_is (λ side. absurd (differ side)) made acts (queue ++ post k true M.tpdus)
-      (λ j side apart. waiting_append j side queue (post k true M.tpdus) ∙ ap (λ (l : List Sent). waiting j side queue ++ l) (waiting_other j k side true M.tpdus apart) ∙ append-nil (waiting j side queue)) pair
+      (λ j side apart. waiting_then j side queue (post k true M.tpdus) ∙ ap (λ (l : List Sent). waiting j side queue ++ l) (waiting_other j k side true M.tpdus apart) ∙ append-nil (waiting j side queue)) pair
     where
       pair : (x y : End) (c d : ℕ) → place ≡ Some x → a.called ≡ Some y → number k true ≡ Some c → number k false ≡ Some d → AreOpening x y
           → IsClocking (journal ++ made) now c d x y (waiting k true (queue ++ post k true M.tpdus)) (waiting k false (queue ++ post k true M.tpdus))
@@ -123,7 +124,7 @@ module _ (own : ℕ → List ℕ) (now : ℕ) (ends : List EndAt) (all : List As
       → Tells IsClocking own now ends (slice_set all k (with_party a false place)) (queue ++ post k false M.tpdus) number (journal ++ made)
   tells_called_tick end_is n_is place_is over uncalling lost acts =
       tells_acted IsClocking clocking_stays own now ends all queue number journal t k a false end n is end_is n_is Ticked tt place place_is (λ _. lost) made acts (queue ++ post k false M.tpdus)
-      (λ j side apart. waiting_append j side queue (post k false M.tpdus) ∙ ap (λ (l : List Sent). waiting j side queue ++ l) (waiting_other j k side false M.tpdus apart) ∙ append-nil (waiting j side queue)) pair
+      (λ j side apart. waiting_then j side queue (post k false M.tpdus) ∙ ap (λ (l : List Sent). waiting j side queue ++ l) (waiting_other j k side false M.tpdus apart) ∙ append-nil (waiting j side queue)) pair
     where
       old : (x : End) → AreOpening x (end_of M) → Answers end.stage → IsYoung end.stage → ⊥
       old x opening (Partners r at) young = uncalling r at

@@ -1,20 +1,18 @@
 -- An end that ticks: it was due and is no more, and it is taken out only where its reference is free. Where nothing waits, the called end of a calling one
 -- that waits for its answer is not frozen, so it keeps its reference over the next tick.
-use Rattle.std.proofs.Common.{◌≡◌, ℕ, ◌+◌, Bool, true, false, get_or, nat_lt, if◌then◌else◌, List, [], Option, Some, None, refl, sym, ◌∙◌, ap, subst, inr}
+use Rattle.std.proofs.Common.{◌≡◌, ℕ, ◌+◌, true, false, get_or, List, [], Option, Some, None, refl, sym, ◌∙◌, ap, subst, inr}
 use Rattle.std.specs.Prelude.{option_map}
 use Rattle.std.specs.List.{position}
 use Rattle.std.proofs.lemmas.List.Quantifiers.{position-Some}
 use Rattle.std.proofs.lemmas.Option.{slice_get-get_or}
 use Rattle.tp4_number.specs.Number.{whole}
 use Rattle.tp4_flow.specs.declared.step.Sent.{Sent}
-use Rattle.tp4_sending.specs.SendingHalf.{due_of}
-use Rattle.tp4_sending.specs.Pieces.{sooner}
 use Rattle.tp4_conn.specs.End.{End, Moved, end_of, frozen_for}
 use Rattle.tp4_conn.specs.Proper.{IsProper}
 use Rattle.tp4_conn.specs.Table.{Ticked, at as at_tick, due, stepped}
 use Rattle.tp4_conn.specs.declared.end_record.EndRecord.{EndRecord}
 use Rattle.tp4_conn.specs.declared.states.StateData.{StateData}
-use Rattle.tp4_conn.specs.declared.states.StateData.TheVariants.{CrWait, UserWait, Opened, Frozen}
+use Rattle.tp4_conn.specs.declared.states.StateData.TheVariants.{CrWait, UserWait, Frozen}
 use Rattle.tp4_conn.specs.declared.timers.Timers.{Timers}
 use Rattle.tp4_entity.specs.Entity.{Entity, end_at, there}
 use Rattle.tp4_entity.specs.References.{was_frozen}
@@ -25,6 +23,7 @@ use Rattle.law_tp4_proper.proofs.Rows.{ticked_later}
 use Rattle.law_tp4_associations.specs.Association.{Association}
 use Rattle.law_tp4_associations.specs.Phase.{Answered, Asking, IsFrozen, IsInUse, IsOver, Late, Leaving, Over, Paired, Phase, Refused, Rejected, Waiting, WillFreeze}
 use Rattle.law_tp4_associations.proofs.Handing.{paired_held}
+use Rattle.law_tp4_associations.proofs.FrozenReferences.{over as no_due}
 use Rattle.law_tp4_rows.proofs.Leaving.{ticks_same}
 use Rattle.law_calm_run.proofs.Story.{IsYoung}
 use Rattle.law_calm_run.proofs.Continuing.{none_some, some_same}
@@ -50,20 +49,6 @@ due_later now end proper = kept_later now (stepped whole now end Ticked) (Some 0
 pub kept_is : (m : Moved) (next : Option ℕ) (end : End) → kept_end m next ≡ Some end → end ≡ end_of m
 kept_is m None end is = absurd (none_some end is)
 kept_is m (Some tick) end is = sym (some_same (end_of m) end is)
-
-open_due : (took acked : ℕ) (sends : Option ℕ) → sooner (sooner (Some took) (Some acked)) sends ≡ None → ⊥
-open_due took acked None is = cc is
-open_due took acked (Some tick) is = cc is
-
--- an end without a due tick was frozen for long enough
-no_due : (b : EndRecord) (stage : StateData) → due b stage ≡ None → was_frozen b.clock (frozen_for b.timers) stage ≡ true
-no_due b (Opened o) is = absurd (open_due (o.took + b.timers.inactive) (o.acked + b.timers.window) (due_of o.halves.sending) is)
-no_due b (Frozen when) is = by_late (nat_lt (when + frozen_for b.timers) b.clock) is
-  where
-    by_late : (late : Bool) → (if late then None else Some (when + frozen_for b.timers + 1)) ≡ None → late ≡ true
-    by_late true e = refl
-    by_late false e = absurd (cc e)
-no_due b other is = absurd (cc is)
 
 kept_none : (m : Moved) (next : Option ℕ) → kept_end m next ≡ None → next ≡ None
 kept_none m None is = refl

@@ -1,6 +1,6 @@
 -- The TPDU that waits first is handed to the entity that it is for: the end takes it, or none does, or it is the CR that makes the called end. In each case
 -- the story of the associations stands beside the network that comes of it.
-use Rattle.std.proofs.Common.{◌≡◌, ℕ, zero, suc, ◌+◌, Bool, true, false, not, List, [], ◌∷◌, ◌++◌, length, map, slice_get, slice_set, Some, None, refl, sym, ◌∙◌, ap, subst, append-nil}
+use Rattle.std.proofs.Common.{◌≡◌, ℕ, ◌+◌, Bool, true, false, not, List, [], ◌∷◌, ◌++◌, length, map, slice_get, slice_set, Some, None, refl, sym, ◌∙◌, ap, subst, append-nil}
 use Rattle.script_journal.specs.declared.event.Event.{Event as JournalEvent}
 use Rattle.tp4_number.specs.Number.{whole}
 use Rattle.tp4_flow.specs.declared.step.Sent.{Sent}
@@ -23,6 +23,7 @@ use Rattle.law_tp4_associations.specs.Association.{Association, Posted, cleared,
 use Rattle.law_tp4_associations.specs.Handing.{Aside, Begins, Hands, IsBetweenOpen, Taken, Takes, TellsOfNoEnd}
 use Rattle.law_tp4_associations.specs.Phase.{Answered, Asking, Late, Leaving, Over, Paired, Phase, Refused, Rejected, Waiting}
 use Rattle.law_tp4_associations.specs.Standing.{Standing}
+use Rattle.law_tp4_associations.proofs.Handed.{set_back}
 use Rattle.law_calm_run.proofs.Hall.{Hall, Post, after, posted}
 use Rattle.law_calm_run.proofs.Story.{ArePosts, IsRunning, IsYoung, Numbers, Story, Tells}
 use Rattle.law_calm_run.proofs.Acting.{acts_of, aside_of_no_end, ends_same}
@@ -59,11 +60,6 @@ asks_still timers here there now a forth back (Answered x y w calling called ask
 asks_still timers here there now a forth back (Paired p calling called is) none some = none_called a p.called none called
 asks_still timers here there now a forth back (Leaving x y calling called parts held also) none some = none_called a y none called
 asks_still timers here there now a forth back (Over calling called forth_is back_is) none some = absurd (some forth_is)
-
-set_same : {A : Type 0} (xs : List A) (k : ℕ) (x : A) → slice_get xs k ≡ Some x → slice_set xs k x ≡ xs
-set_same [] k x is = refl
-set_same (y ∷ xs) zero x is = ap (λ (z : _). z ∷ xs) (cc is)
-set_same (y ∷ xs) (suc k) x is = ap (λ (zs : List _). y ∷ zs) (set_same xs k x is)
 
 -- only of the calling system's association does the called end become another one
 called_systems : (system reference : ℕ) (a : Association) (y : End) (by : Bool) → system_of (record a { called = Some y }) by ≡ system_of (cleared system reference a) by
@@ -132,7 +128,7 @@ module _ (timers : Timers) (own : ℕ → List ℕ) (now : ℕ) (entities : List
         queue = queue ++ post k (not by) acted.tpdus;
         number = number;
         standing =
-            subst (λ (l : List Association). Standing timers own now (with_entity entities (system_of a (not by)) acted.entity) l (queue ++ post k (not by) acted.tpdus)) (set_same all k a is) standing;
+            subst (λ (l : List Association). Standing timers own now (with_entity entities (system_of a (not by)) acted.entity) l (queue ++ post k (not by) acted.tpdus)) (set_back all k a is) standing;
         posts = posts_then all by acted.tpdus (λ j b at. record { now = b; is = at; systems = λ side. refl });
         tells = subst (λ (es : List EndAt). Tells IsRunning own now es all (queue ++ post k (not by) acted.tpdus) number (journal ++ lines by acted)) (sym quietly.ends_are)
             (tells_aside own now ends all (first by) queue number journal (lines by acted) a acted.tpdus t is apart quietly.none quietly.silent);

@@ -5,6 +5,7 @@ use Rattle.std.specs.Prelude.{None}
 use Rattle.std.proofs.lemmas.List.Elements.{Contains-append_left, Contains-append_right, Contains-append_cases}
 use Rattle.script_journal.specs.Lawful.{Marked, shown, submitted}
 use Rattle.script_journal.specs.declared.event.Event.{Event as JournalEvent}
+use Rattle.script_journal.proofs.Showing.{shown_both, submitted_both}
 use Rattle.tp4_number.specs.Number.{whole}
 use Rattle.tpdu.specs.declared.service.Options.{Options}
 use Rattle.tp4_flow.specs.declared.step.EndEvent.{EndEvent}
@@ -15,7 +16,6 @@ use Rattle.tp4_conn.specs.Table.{Called, Ticked, Took, stepped}
 use Rattle.tp4_conn.specs.declared.call.UserCall.{UserCall}
 use Rattle.tp4_conn.specs.declared.call.UserCall.TheVariants.{Accept}
 use Rattle.tp4_entity.specs.Step.{is_due}
-use Rattle.law_tp4_history.proofs.Appended.{shown-append, submitted-append}
 use Rattle.law_tp4_history.specs.Lines.{given, shown_in}
 use Rattle.law_tp4_pair.specs.Pairs.{IsToldIn}
 use Rattle.law_tp4_pair.specs.Pair.{Accepts, Asks_called, Asks_calling, Clock, Comes_back, Comes_forth, Happening, Leads, May, Pair, next, tick_of}
@@ -59,10 +59,10 @@ told_both journal made n told new t u = record {
 }
 
 gave_more : (journal made : List JournalEvent) (n : ℕ) (us : List Marked) → submitted n made ≡ us → submitted n (journal ++ made) ≡ submitted n journal ++ us
-gave_more journal made n us is = submitted-append n journal made ∙ ap (λ (vs : List Marked). submitted n journal ++ vs) is
+gave_more journal made n us is = submitted_both n journal made ∙ ap (λ (vs : List Marked). submitted n journal ++ vs) is
 
 showed_more : (journal made : List JournalEvent) (n : ℕ) (us : List Marked) → shown n made ≡ us → shown n (journal ++ made) ≡ shown n journal ++ us
-showed_more journal made n us is = shown-append n journal made ∙ ap (λ (vs : List Marked). shown n journal ++ vs) is
+showed_more journal made n us is = shown_both n journal made ∙ ap (λ (vs : List Marked). shown n journal ++ vs) is
 
 pub gave_none : (journal made : List JournalEvent) (n : ℕ) → submitted n made ≡ [] → submitted n (journal ++ made) ≡ submitted n journal
 gave_none journal made n is = gave_more journal made n [] is ∙ append-nil (submitted n journal)

@@ -1,27 +1,16 @@
 -- Partners in a journal that goes on: an indication keeps the request that is its partner; a new one has the latest request so far with its address
 -- and reference; and a request is the latest one until another has both of them.
-use Rattle.std.proofs.Common.{◌≡◌, ◌⊎◌, ℕ, zero, suc, ◌+◌, ◌-◌, ◌<◌, ◌≤◌, true, false, List, [], ◌∷◌, ◌++◌, length, slice_get, Some, refl, sym, ◌∙◌, ap, subst, inl, inr, arith, length-append}
+use Rattle.std.proofs.Common.{◌≡◌, ◌⊎◌, ℕ, zero, suc, ◌+◌, ◌-◌, ◌<◌, ◌≤◌, true, false, List, ◌∷◌, ◌++◌, length, slice_get, Some, refl, sym, ◌∙◌, ap, subst, inl, inr, arith, length-append}
 use Rattle.std.proofs.lemmas.Bool.{cases_lt}
-use Rattle.std.proofs.lemmas.List.Elements.{All-head, All-tail}
 use Rattle.script_journal.specs.declared.event.Event.{Event}
 use Rattle.script_journal.specs.declared.event.Event.TheVariants as events
 use Rattle.script_journal.specs.declared.event.Indication.{Indication}
 use Rattle.script_journal.specs.declared.event.Request.{Request}
 use Rattle.script_journal.specs.Partner.{IsLatest, Partner}
-use Rattle.law_tp4_history.specs.Journals.{MakesNone, makes_end}
+use Rattle.law_tp4_history.specs.Journals.{MakesNone}
+use Rattle.law_tp4_history.proofs.Places.{get_left, get_right, none_made}
 
 -- ---- places
-
--- what stands in the first of two lists stands there in both
-in_front : (xs ys : List Event) (i : ℕ) → i < length xs → slice_get (xs ++ ys) i ≡ slice_get xs i
-in_front [] ys i low = absurd (omega (arith, low))
-in_front (x ∷ xs) ys zero low = refl
-in_front (x ∷ xs) ys (suc i) low = in_front xs ys i (omega (arith, low))
-
-in_back : (xs ys : List Event) (i k : ℕ) → i ≡ length xs + k → slice_get (xs ++ ys) i ≡ slice_get ys k
-in_back [] ys i k is = ap (λ (n : ℕ). slice_get ys n) (omega (arith, is))
-in_back (x ∷ xs) ys zero k is = absurd (omega (arith, is))
-in_back (x ∷ xs) ys (suc i) k is = in_back xs ys i k (omega (arith, is))
 
 -- the place is one of the second list
 record IsBehind (xs ys : List Event) (i : ℕ) (event : Event) : Type 0 where
@@ -34,7 +23,7 @@ front_or_back xs ys i event is = elim (cases_lt i (length xs)) [
   | inl low ↦ inl low
   | inr high ↦
       let at : i ≡ length xs + (i - length xs) = omega (arith, high) in
-      inr (record { place = i - length xs; at = at; is = sym (in_back xs ys i (i - length xs) at) ∙ is })
+      inr (record { place = i - length xs; at = at; is = sym (get_right xs ys i (i - length xs) at) ∙ is })
 ]
 
 -- ---- events that are none of a kind
@@ -46,14 +35,6 @@ NoneHeard made = (k : ℕ) (heard : Indication) → slice_get made k ≡ Some (e
 -- none is a request with this address and reference
 abbrev pub NoneAsked : List ℕ → ℕ → List Event → Type 0
 NoneAsked calling reference made = (k : ℕ) (asked : Request) → slice_get made k ≡ Some (events.Connect asked) → asked.calling ≡ calling → asked.reference ≡ reference → ⊥
-
--- events that make no end are neither
-none_made : (made : List Event) (k : ℕ) (event : Event) → MakesNone made → slice_get made k ≡ Some event → makes_end event ≡ false
-none_made [] k event none is = absurd cc
-none_made (x ∷ made) zero event none is =
-    let same : x ≡ event = cc in
-    subst (λ (e : Event). makes_end e ≡ false) same (All-head (λ (e : Event). makes_end e ≡ false) x made none)
-none_made (x ∷ made) (suc k) event none is = none_made made k event (All-tail (λ (e : Event). makes_end e ≡ false) x made none) is
 
 pub none_heard : (made : List Event) → MakesNone made → NoneHeard made
 none_heard made none k heard is = let e : true ≡ false = none_made made k (events.Incoming heard) none is in absurd cc
@@ -83,18 +64,18 @@ none_asked_after calling reference indication rest none (suc k) asked is from by
 latest_there : (journal made : List Event) (p q : ℕ) (calling : List ℕ) (reference : ℕ) (asked : Request) → p ≤ length journal → IsLatest (journal ++ made) p q calling reference asked
     → IsLatest journal p q calling reference asked
 latest_there journal made p q calling reference asked low l = record {
-  is = sym (in_front journal made q (omega (arith, low, l.before))) ∙ l.is;
+  is = sym (get_left journal made q (omega (arith, low, l.before))) ∙ l.is;
   before = l.before;
   from = l.from;
   by = l.by;
-  last = λ r other up below is. l.last r other up below (in_front journal made r (omega (arith, low, below)) ∙ is);
+  last = λ r other up below is. l.last r other up below (get_left journal made r (omega (arith, low, below)) ∙ is);
 }
 
 -- it stays the latest while no other request has this address and reference
 pub latest_kept : (journal made : List Event) (q : ℕ) (calling : List ℕ) (reference : ℕ) (asked : Request) → NoneAsked calling reference made
     → IsLatest journal (length journal) q calling reference asked → IsLatest (journal ++ made) (length (journal ++ made)) q calling reference asked
 latest_kept journal made q calling reference asked none l = record {
-  is = in_front journal made q l.before ∙ l.is;
+  is = get_left journal made q l.before ∙ l.is;
   before = omega (arith, l.before, length-append journal made);
   from = l.from;
   by = l.by;
@@ -103,7 +84,7 @@ latest_kept journal made q calling reference asked none l = record {
   where
     later : (r : ℕ) (other : Request) → q < r → slice_get (journal ++ made) r ≡ Some (events.Connect other) → other.calling ≡ calling → other.reference ≡ reference
         → (r < length journal) ⊎ IsBehind journal made r (events.Connect other) → ⊥
-    later r other up is from by (inl low) = l.last r other up low (sym (in_front journal made r low) ∙ is) from by
+    later r other up is from by (inl low) = l.last r other up low (sym (get_left journal made r low) ∙ is) from by
     later r other up is from by (inr behind) = none behind.place other behind.is from by
 
 -- events that make no end, an indication with such, and a request of another address or reference with such leave it the latest
@@ -135,7 +116,7 @@ latest_connect journal rest request q calling reference asked none apart l = lat
 pub latest_new : (journal rest : List Event) (request : Request) → MakesNone rest
     → IsLatest (journal ++ events.Connect request ∷ rest) (length (journal ++ events.Connect request ∷ rest)) (length journal) request.calling request.reference request
 latest_new journal rest request none = record {
-  is = in_back journal (events.Connect request ∷ rest) (length journal) 0 (omega arith);
+  is = get_right journal (events.Connect request ∷ rest) (length journal) 0 (omega arith);
   before = omega (arith, length-append journal (events.Connect request ∷ rest));
   from = refl;
   by = refl;
@@ -171,7 +152,7 @@ one_latest journal p q s calling reference asked other l k =
 
 partner_in : (journal made : List Event) (p q : ℕ) (heard : Indication) (asked : Request) → p < length journal → Partner (journal ++ made) p q heard asked → Partner journal p q heard asked
 partner_in journal made p q heard asked low h =
-    record { is = sym (in_front journal made p low) ∙ h.is; latest = latest_there journal made p q heard.calling heard.partner asked (omega (arith, low)) h.latest }
+    record { is = sym (get_left journal made p low) ∙ h.is; latest = latest_there journal made p q heard.calling heard.partner asked (omega (arith, low)) h.latest }
 
 partner_before : (journal made : List Event) (p q : ℕ) (heard : Indication) (asked : Request) → NoneHeard made → Partner (journal ++ made) p q heard asked → Partner journal p q heard asked
 partner_before journal made p q heard asked none h = elim (front_or_back journal made p (events.Incoming heard) h.is) [

@@ -10,10 +10,11 @@ use Rattle.law_tp4_pair.specs.Standing.{HasLeft}
 use Rattle.tp4_world.specs.declared.place.EndAt.{EndAt}
 use Rattle.law_tp4_associations.specs.Association.{Association, Posted, post, waiting}
 use Rattle.law_tp4_associations.specs.Handing.{IsBetweenOpen}
+use Rattle.law_tp4_associations.proofs.Spots.{waiting_then}
 use Rattle.law_calm_run.proofs.Story.{AreOpening, HasNoUnits, IsRunning, IsYoung, Numbers, Runs, Tells}
 use Rattle.law_calm_run.proofs.Continuing.{AllContinue, some_same}
 use Rattle.law_calm_run.proofs.Pairing.{gave_none, running_stays, showed_none}
-use Rattle.law_calm_run.proofs.Stepping.{first_other, waiting_append, waiting_other}
+use Rattle.law_calm_run.proofs.Stepping.{first_other, waiting_other}
 use Rattle.law_calm_run.proofs.Storying.{linked_on}
 
 pub all_stay : (all : List Association) → AllContinue all all
@@ -76,7 +77,7 @@ tells_aside own now ends all posted rest number journal made a tpdus t is apart 
     as_before : (j : ℕ) (side : Bool) → j ≢ posted.of → waiting j side (posted ∷ rest) ≡ waiting j side (rest ++ post posted.of (not posted.by) tpdus)
     as_before j side other =
         first_other posted rest j side other
-        ∙ sym (waiting_append j side rest (post posted.of (not posted.by) tpdus) ∙ ap (λ (l : List Sent). waiting j side rest ++ l) (waiting_other j posted.of side (not posted.by) tpdus other) ∙ append-nil (waiting j side rest))
+        ∙ sym (waiting_then j side rest (post posted.of (not posted.by) tpdus) ∙ ap (λ (l : List Sent). waiting j side rest ++ l) (waiting_other j posted.of side (not posted.by) tpdus other) ∙ append-nil (waiting j side rest))
 
     pairs : (k : ℕ) (b : Association) (x y : End) (c d : ℕ) → slice_get all k ≡ Some b → b.calling ≡ Some x → b.called ≡ Some y → number k true ≡ Some c → number k false ≡ Some d → AreOpening x y
         → IsRunning (journal ++ made) now c d x y (waiting k true (rest ++ post posted.of (not posted.by) tpdus)) (waiting k false (rest ++ post posted.of (not posted.by) tpdus))

@@ -26,7 +26,7 @@ use Rattle.law_calm_run.proofs.Going.{HasSettled, Stands}
 use Rattle.law_calm_run.proofs.Lines.{lines_go}
 use Rattle.law_calm_run.proofs.Never.{AreNever}
 
-none_fine : (Fine : List ℕ → Type 0) (ends : List (Option End)) → AllByRecursion (λ place. place ≡ None) ends → EndsFine Fine ends
+pub none_fine : (Fine : List ℕ → Type 0) (ends : List (Option End)) → AllByRecursion (λ place. place ≡ None) ends → EndsFine Fine ends
 none_fine Fine [] none = tt
 none_fine Fine (None ∷ ends) none = (tt, none_fine Fine ends none.1)
 none_fine Fine (Some end ∷ ends) none = absurd (none_some end (sym none.0))

@@ -19,6 +19,7 @@ use Rattle.tp4_conn.specs.declared.states.StateData.TheVariants as stages
 use Rattle.law_tp4_history.specs.Lines.{shown_in}
 use Rattle.tp4_world.specs.declared.place.EndAt.{EndAt}
 use Rattle.law_tp4_associations.specs.Association.{Association, Posted, is_same, post, waiting, with_party}
+use Rattle.law_tp4_associations.proofs.Spots.{waiting_post, waiting_then}
 use Rattle.law_calm_run.proofs.Story.{AreNumbered, AreOpening, IsRunning, IsYoung, Numbers, Tells}
 use Rattle.law_calm_run.proofs.Continuing.{none_some, some_same}
 use Rattle.law_calm_run.proofs.Pairing.{running_back, running_forth, running_stays}
@@ -52,21 +53,6 @@ test_second : (a b : Bool) → b ≡ false → (a && b) ≡ false
 test_second true b h = h
 test_second false b h = refl
 
-pub waiting_append : (k : ℕ) (by : Bool) (xs ys : List Posted) → waiting k by (xs ++ ys) ≡ waiting k by xs ++ waiting k by ys
-waiting_append k by [] ys = refl
-waiting_append k by (x ∷ xs) ys = step (x.of == k && is_same x.by by) (waiting_append k by xs ys)
-  where
-    step : (b : Bool) → waiting k by (xs ++ ys) ≡ waiting k by xs ++ waiting k by ys
-        → If b (x.sent ∷ waiting k by (xs ++ ys)) (waiting k by (xs ++ ys)) ≡ If b (x.sent ∷ waiting k by xs) (waiting k by xs) ++ waiting k by ys
-    step true rest = ap (λ (l : List Sent). x.sent ∷ l) rest
-    step false rest = rest
-
-pub waiting_own : (k : ℕ) (by : Bool) (tpdus : List Sent) → waiting k by (post k by tpdus) ≡ tpdus
-waiting_own k by [] = refl
-waiting_own k by (sent ∷ tpdus) =
-    ap (λ (b : Bool). If b (sent ∷ waiting k by (post k by tpdus)) (waiting k by (post k by tpdus))) (test_true (k == k) (is_same by by) (own_place k) (same_side by))
-    ∙ ap (λ (l : List Sent). sent ∷ l) (waiting_own k by tpdus)
-
 pub waiting_side : (k : ℕ) (by : Bool) (tpdus : List Sent) → waiting k (not by) (post k by tpdus) ≡ []
 waiting_side k by [] = refl
 waiting_side k by (sent ∷ tpdus) =
@@ -79,11 +65,11 @@ waiting_other j k side by (sent ∷ tpdus) apart =
 
 -- what an end sends comes behind what waits there, and leaves what waits for it
 pub own_behind : (k : ℕ) (by : Bool) (queue : List Posted) (tpdus : List Sent) → waiting k by queue ++ tpdus ≡ waiting k by (queue ++ post k by tpdus)
-own_behind k by queue tpdus = sym (waiting_append k by queue (post k by tpdus) ∙ ap (λ (l : List Sent). waiting k by queue ++ l) (waiting_own k by tpdus))
+own_behind k by queue tpdus = sym (waiting_then k by queue (post k by tpdus) ∙ ap (λ (l : List Sent). waiting k by queue ++ l) (waiting_post k by tpdus))
 
 pub side_behind : (k : ℕ) (by : Bool) (queue : List Posted) (tpdus : List Sent) → waiting k (not by) queue ≡ waiting k (not by) (queue ++ post k by tpdus)
 side_behind k by queue tpdus =
-    sym (waiting_append k (not by) queue (post k by tpdus) ∙ ap (λ (l : List Sent). waiting k (not by) queue ++ l) (waiting_side k by tpdus) ∙ append-nil (waiting k (not by) queue))
+    sym (waiting_then k (not by) queue (post k by tpdus) ∙ ap (λ (l : List Sent). waiting k (not by) queue ++ l) (waiting_side k by tpdus) ∙ append-nil (waiting k (not by) queue))
 
 pub first_own : (posted : Posted) (rest : List Posted) → waiting posted.of posted.by (posted ∷ rest) ≡ posted.sent ∷ waiting posted.of posted.by rest
 first_own posted rest =
@@ -129,7 +115,7 @@ module _ (own : ℕ → List ℕ) (now : ℕ) (ends : List EndAt) (all : List As
       let posted : Posted = record { of = k; by = true; sent = sent } in
       tells_acted IsRunning running_stays own now ends all (posted ∷ rest) number journal t k a false end n is end_is n_is (Took sent.tpdu sent.sum) tt (Some (end_of M))
       (λ e same. sym (some_same (end_of M) e same)) (λ _ none. absurd (none_some (end_of M) (sym none))) made acts (rest ++ post k false M.tpdus)
-      (λ j side apart. waiting_append j side rest (post k false M.tpdus) ∙ ap (λ (l : List Sent). waiting j side rest ++ l) (waiting_other j k side false M.tpdus apart)
+      (λ j side apart. waiting_then j side rest (post k false M.tpdus) ∙ ap (λ (l : List Sent). waiting j side rest ++ l) (waiting_other j k side false M.tpdus apart)
       ∙ append-nil (waiting j side rest) ∙ sym (first_other posted rest j side apart))
       pair
     where
@@ -164,7 +150,7 @@ module _ (own : ℕ → List ℕ) (now : ℕ) (ends : List EndAt) (all : List As
       let posted : Posted = record { of = k; by = false; sent = sent } in
       tells_acted IsRunning running_stays own now ends all (posted ∷ rest) number journal t k a true end n is end_is n_is (Took sent.tpdu sent.sum) tt (Some (end_of M))
       (λ e same. sym (some_same (end_of M) e same)) (λ _ none. absurd (none_some (end_of M) (sym none))) made acts (rest ++ post k true M.tpdus)
-      (λ j side apart. waiting_append j side rest (post k true M.tpdus) ∙ ap (λ (l : List Sent). waiting j side rest ++ l) (waiting_other j k side true M.tpdus apart)
+      (λ j side apart. waiting_then j side rest (post k true M.tpdus) ∙ ap (λ (l : List Sent). waiting j side rest ++ l) (waiting_other j k side true M.tpdus apart)
       ∙ append-nil (waiting j side rest) ∙ sym (first_other posted rest j side apart))
       pair
     where

@@ -5,13 +5,13 @@ use Rattle.std.proofs.lemmas.List.Elements.{All-append, Contains-append_left, Co
 use Rattle.script_journal.specs.Lawful.{Marked, shown, submitted}
 use Rattle.script_journal.specs.declared.event.Event.{Event as JournalEvent}
 use Rattle.script_journal.specs.declared.event.Event.TheVariants as events
+use Rattle.script_journal.proofs.Showing.{shown_both, submitted_both}
 use Rattle.tp4_flow.specs.declared.step.EndEvent.{EndEvent}
 use Rattle.tpdu.specs.declared.service.HeldKind.{HeldKind}
 use Rattle.tpdu.specs.declared.service.HeldKind.TheVariants.{Dt, Ed}
 use Rattle.tp4_flow.specs.declared.step.What.TheVariants as whats
 use Rattle.tp4_conn.specs.Table.{Event}
 use Rattle.law_tp4_history.specs.Journals.{IsAside, MakesNone, makes_end}
-use Rattle.law_tp4_history.proofs.Appended.{shown-append, submitted-append}
 use Rattle.law_tp4_history.specs.Lines.{given, shown_in}
 use Rattle.law_tp4_pair.specs.Pairs.{IsToldIn}
 use Rattle.tp4_world.specs.Telling.{events_after}
@@ -51,10 +51,10 @@ acts_in ends system address own n event told aside lines are at quiet is =
     here = first_of n event ++ events_after ends system address told
 
     gave : (j : ℕ) → submitted j (here ++ aside) ≡ submitted j here ++ []
-    gave j = submitted-append j here aside ∙ ap (λ (us : List Marked). submitted j here ++ us) (quiet.units j).0
+    gave j = submitted_both j here aside ∙ ap (λ (us : List Marked). submitted j here ++ us) (quiet.units j).0
 
     showed : (j : ℕ) → shown j (here ++ aside) ≡ shown j here ++ []
-    showed j = shown-append j here aside ∙ ap (λ (us : List Marked). shown j here ++ us) (quiet.units j).1
+    showed j = shown_both j here aside ∙ ap (λ (us : List Marked). shown j here ++ us) (quiet.units j).1
 
     kept : (reference m : ℕ) (kind : HeldKind) → Contains told (record { reference = reference; what = whats.End (tells.Held kind m) }) → Contains (here ++ aside) (events.End n (tells.Held kind m))
     kept reference m kind there =

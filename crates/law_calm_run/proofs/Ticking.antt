@@ -20,6 +20,7 @@ use Rattle.tp4_world.specs.declared.place.Placed.{Placed}
 use Rattle.tp4_world.proofs.Destinations.{ActsFine, ticking_fine}
 use Rattle.law_tp4_lawful.proofs.WorldAsides.{are_aside, told_quiet}
 use Rattle.law_tp4_lawful.proofs.WorldPlaces.{some_same}
+use Rattle.law_tp4_lawful.proofs.WorldTicks.{turned}
 use Rattle.tp4_world.proofs.Having.{found_any, with_first, with_other}
 use Rattle.law_calm_run.specs.Run.{HaveEntities}
 use Rattle.law_calm_run.proofs.Hall.{AreWaiting, Clocking, Hall, IsAddress, Over, TickGoes, TickStep, Ticking, TicksDone, TicksMore, after}
@@ -29,10 +30,6 @@ use Rattle.law_calm_run.proofs.Queueing.{all_parts, none_dropped}
 
 equal : (n m : ℕ) → (n == m) ≡ true → n ≡ m
 equal n m is = grind arith
-
-turned : (n m : ℕ) (b : Bool) → (n == m) ≡ b → (m == n) ≡ b
-turned n m true is = grind arith
-turned n m false is = grind arith
 
 not_empty : false ≡ true → ⊥
 not_empty is = absurd cc

@@ -2,7 +2,7 @@
 -- have the same selectors, free references and callers.
 use Rattle.std.proofs.Common.{◌≡◌, ℕ, ◌||◌, ◌&&◌, not, Bool, true, false, cond, List, [], ◌∷◌, map, Option, Some, None, refl, sym, ◌∙◌, ap, subst}
 use Rattle.std.specs.Prelude.{option_map}
-use Rattle.std.specs.List.{AllByRecursion, find, list_any}
+use Rattle.std.specs.List.{find, list_any}
 use Rattle.osi_base.specs.Calls.{Call}
 use Rattle.osi_base.specs.Link.{Link}
 use Rattle.osi_base.specs.declared.unit.Unit.{Unit as CarriedUnit}
@@ -11,13 +11,11 @@ use Rattle.script_lines.specs.declared.line.Line.TheVariants as lines
 use Rattle.tp4_number.specs.Number.{whole, wire}
 use Rattle.tp4_conn.specs.Matching.{is_called_by}
 use Rattle.tp4_conn.specs.End.{End}
-use Rattle.tp4_conn.specs.Wire.{end_on_wire, stage_on_wire}
-use Rattle.tp4_conn.specs.declared.states.StateData.{StateData}
-use Rattle.tp4_conn.specs.declared.states.StateData.TheVariants.{CrWait}
-use Rattle.tp4_entity.specs.Association.{is_called, is_frozen}
+use Rattle.tp4_conn.specs.Wire.{end_on_wire}
+use Rattle.tp4_entity.specs.Association.{is_called}
 use Rattle.tp4_entity.specs.Entity.{Entity}
 use Rattle.tp4_entity.specs.Wire.{entity_on_wire}
-use Rattle.tp4_world.specs.First.{HasNoEnd, IsNew}
+use Rattle.tp4_entity.proofs.Wires.{frozen_on}
 use Rattle.tp4_world.specs.Laws.{WholeLine, WholeRun}
 use Rattle.tp4_world.specs.Wire.{placed_on_wire}
 use Rattle.tp4_world.specs.Run.{RunsLine}
@@ -25,13 +23,10 @@ use Rattle.tp4_world.specs.World.{World, entity_at, is_of}
 use Rattle.tp4_world.specs.declared.place.Placed.{Placed}
 use Rattle.tp4_world.proofs.OnWire.{least_on}
 use Rattle.law_tp4_lawful.proofs.WorldPlaces.{none_some, some_same}
+use Rattle.law_tp4_lawful.proofs.WorldStarts.{no_ends}
 use Rattle.law_calm_run.specs.Service.{ConnectsAreIndicated, MayIndicate}
 
 -- ---- entities
-
-frozen_on : (stage : StateData) → is_frozen (stage_on_wire stage) ≡ is_frozen stage
-frozen_on (CrWait w) = refl
-frozen_on other = refl
 
 called_on : (frozen : Bool) (from : List ℕ) (reference : ℕ) (place : Option End) → is_called frozen from reference (option_map end_on_wire place) ≡ is_called frozen from reference place
 called_on frozen from reference None = refl
@@ -62,10 +57,6 @@ entity_whole (one ∷ placed) system e is = by_first (is_of system one) refl is 
     by_first false at is rest =
         let r = rest is in
         (r.0, ap (λ (b : Bool). option_map (λ (x : Placed). x.entity) (cond b (Some one) (find (is_of system) placed))) at ∙ r.1, r.2)
-
-pub no_ends : (titles : List (List ℕ)) (placed : List Placed) → AllByRecursion (IsNew titles) placed → AllByRecursion (λ (one : Placed). HasNoEnd one.entity) placed
-no_ends titles [] all = tt
-no_ends titles (one ∷ placed) all = (all.0.none, no_ends titles placed all.1)
 
 -- ---- the connect law
 

@@ -1,8 +1,7 @@
 -- What each two partner ends show is the same over the numbers of the wire: an end has the same state there, the same sending half and the same credit. So is
 -- the confirm of an accept.
-use Rattle.std.proofs.Common.{◌≡◌, ℕ, ◌==◌, ◌-◌, Bool, true, false, if◌then◌else◌, List, ◌∷◌, ◌++◌, map, slice_get, Option, Some, None, refl, sym, ◌∙◌, ap, subst}
+use Rattle.std.proofs.Common.{◌≡◌, ℕ, ◌==◌, Bool, true, false, if◌then◌else◌, List, ◌∷◌, ◌++◌, map, Option, Some, None, refl, sym, ◌∙◌, ap, subst}
 use Rattle.std.specs.Prelude.{option_and_then, option_map}
-use Rattle.std.proofs.lemmas.Option.{slice_get-map}
 use Rattle.osi_base.specs.Calls.{Call}
 use Rattle.osi_base.specs.Link.{Link}
 use Rattle.osi_base.specs.declared.unit.Unit.{Unit as CarriedUnit}
@@ -29,21 +28,11 @@ use Rattle.law_calm_run.specs.Service.{end_at_number, end_placed}
 use Rattle.law_calm_run.specs.steps.Confirms.{AcceptsAreConfirmed}
 use Rattle.law_calm_run.specs.Pairs.{ShowAll}
 use Rattle.law_calm_run.proofs.Continuing.{none_some, some_same}
-use Rattle.law_calm_run.proofs.Wired.{no_ends}
 use Rattle.tpdu.specs.declared.service.EndTold.TheVariants as tells
+use Rattle.law_tp4_lawful.proofs.ReferencesRuns.{end_on}
+use Rattle.law_tp4_lawful.proofs.WorldStarts.{no_ends}
 
 -- ---- ends by their numbers
-
-on_place : (place : Option (Option End)) → there (option_map (option_map end_on_wire) place) ≡ option_map end_on_wire (there place)
-on_place None = refl
-on_place (Some end) = refl
-
-end_on : (e : Entity) (reference : ℕ) → end_at (entity_on_wire e) reference ≡ option_map end_on_wire (end_at e reference)
-end_on e reference = by_zero (reference == 0)
-  where
-    by_zero : (none : Bool) → (if none then None else there (slice_get (map (option_map end_on_wire) e.ends) (reference - 1))) ≡ option_map end_on_wire (if none then None else there (slice_get e.ends (reference - 1)))
-    by_zero true = refl
-    by_zero false = ap there (slice_get-map (option_map end_on_wire) e.ends (reference - 1)) ∙ on_place (slice_get e.ends (reference - 1))
 
 in_entity : (reference : ℕ) (e : Option Entity) → option_and_then (λ x. end_at x reference) (option_map entity_on_wire e) ≡ option_map end_on_wire (option_and_then (λ x. end_at x reference) e)
 in_entity reference None = refl

@@ -3,10 +3,7 @@ use Rattle.std.proofs.Common.{◌≡◌, ℕ, ◌-◌, Bool, true, ◌&&◌, nat
 use Rattle.std.specs.Cmp.Lexicographic.{pointwise}
 use Rattle.std.proofs.lemmas.Bool.Decides.{nat_tests}
 use Rattle.nsap.specs.Address.{is_same_system, selector_of, system_part}
-
-pub is_itself : (octets : List ℕ) → pointwise nat_eq octets octets ≡ true
-is_itself [] = refl
-is_itself (octet ∷ octets) = let one : nat_eq octet octet ≡ true = grind (arith, nat_tests) in rw one (is_itself octets)
+use Rattle.law_clnp_step.proofs.Joined.{same_numbers}
 
 pub turned : (first second : List ℕ) → pointwise nat_eq first second ≡ pointwise nat_eq second first
 turned [] [] = refl
@@ -39,7 +36,7 @@ pub made_of : (title other : List ℕ) (selector : ℕ) → is_same_system (syst
 made_of title other selector = ap (λ (part : List ℕ). pointwise nat_eq part (system_part other)) (part_of_made (system_part title) selector)
 
 pub own_title : (title : List ℕ) → is_same_system title title ≡ true
-own_title title = is_itself (system_part title)
+own_title title = same_numbers (system_part title)
 
 pub titles_turned : (first second : List ℕ) → is_same_system first second ≡ is_same_system second first
 titles_turned first second = turned (system_part first) (system_part second)

@@ -1,19 +1,19 @@
 -- The identifier of a unit that is taken is new: nothing that any system holds has its key, so nothing of an older unit is ever joined with it (X.233, data unit identifier).
-use Rattle.std.proofs.Common.{◌≡◌, ◌⊎◌, inl, inr, ℕ, ◌+◌, ◌≤◌, Bool, true, false, not, ◌&&◌, ◌||◌, nat_lt, List, [], ◌∷◌, length, Option, Some, None, Ok, refl, sym, ◌∙◌, ap, subst}
+use Rattle.std.proofs.Common.{◌≡◌, ◌⊎◌, inl, inr, ℕ, ◌+◌, ◌≤◌, Bool, true, false, ◌||◌, nat_lt, List, [], ◌∷◌, length, Ok, refl, sym, ◌∙◌, ap, subst}
 use Rattle.std.specs.List.{AllByRecursion, list_any}
 use Rattle.nsap.specs.Address.{is_same_system}
-use Rattle.nsap.specs.declared.port.Hop.{Hop}
 use Rattle.osi_base.specs.declared.unit.DropCause.TheVariants as causes
 use Rattle.osi_base.specs.declared.unit.Unit.{Unit as CarriedUnit}
 use Rattle.osi_base.specs.declared.unit.Wish.{Wish}
 use Rattle.lan_step.specs.Bag.{link_of}
+use Rattle.lan_bag.proofs.Indices.{and_second}
 use Rattle.esis_tables.specs.Rows.{Rows}
 use Rattle.clnp_segment.specs.Store.{Key, Partial, has_key, key_of}
 use Rattle.clnp_segment.proofs.Units.{key_there}
 use Rattle.clnp_system.specs.Identifiers.{is_spent}
 use Rattle.clnp_system.specs.Node.{Frame, Node}
-use Rattle.clnp_system.specs.Sending.{IsDropped as IsRefused, IsSent, Sends, by_hop, first_length, way}
-use Rattle.clnp_system.specs.Setting.{is_own_system, room_of}
+use Rattle.clnp_system.specs.Sending.{IsDropped as IsRefused, IsSent, Sends, way}
+use Rattle.clnp_system.specs.Setting.{is_own_system}
 use Rattle.clnp_system.specs.Tables.{rows_tables}
 use Rattle.law_clnp_step.specs.Handling.{Changes}
 use Rattle.law_clnp_step.specs.Sound.{IsHeldFor, IsNumbered, IsNumberedBy, IsSound, IsTraced, Knows, Origin, entry_of}
@@ -21,6 +21,7 @@ use Rattle.law_clnp_step.specs.Step.{is_source}
 use Rattle.law_clnp_step.proofs.Handled.{change_at}
 use Rattle.law_clnp_step.proofs.Lists.{all_from_map, all_two, all_weaker, among_all}
 use Rattle.law_clnp_step.proofs.Numbered.{fresh_id}
+use Rattle.law_clnp_step.proofs.Offered.{hop_unspent}
 use Rattle.law_clnp_net.proofs.Gathered.{Net}
 use Rattle.law_clnp_net.proofs.joining.Sent.{not_first}
 use Rattle.law_clnp_net.specs.Joining.{HasNone, unit_key}
@@ -29,27 +30,11 @@ cases : (b : Bool) → (b ≡ true) ⊎ (b ≡ false)
 cases true = inl refl
 cases false = inr refl
 
-and_off : (a b : Bool) → a ≡ true → (a && b) ≡ false → b ≡ false
-and_off true b e h = h
-and_off false b e h = absurd cc
-
-and_last : (a b : Bool) → (a && b) ≡ true → b ≡ true
-and_last true b h = h
-and_last false b h = absurd cc
-
--- an identifier was given that was not spent
-unspent_by : {N : Type 0} (node : Node N) (now : ℕ) (unit : CarriedUnit (List ℕ)) (wish : Wish) (found : Option Hop) (hop : Hop) → by_hop node now unit wish found ≡ Ok hop → wish.cut ≡ true
-    → is_spent node now ≡ false
-unspent_by node now unit wish None hop e cut = absurd cc
-unspent_by node now unit wish (Some other) hop e cut =
-    let long = not_first (not wish.cut && nat_lt (room_of node.setup other.port.lan) (first_length node.setup unit wish)) causes.TooLong _ hop e in
-    and_off wish.cut (is_spent node now) cut (not_first (wish.cut && is_spent node now) causes.IdsSpent (Ok other) hop long.1).0
-
 unspent : (node after : Node Rows) (now : ℕ) (unit : CarriedUnit (List ℕ)) (wish : Wish) (frames : List Frame) → Sends rows_tables node now unit wish (Ok frames) after → wish.cut ≡ true
     → is_spent node now ≡ false
 unspent node after now unit wish frames (IsRefused cause is sent_is after_is) cut = absurd cc
 unspent node after now unit wish frames (IsSent hop found is frames_are sent_is after_is) cut =
-    unspent_by node now unit wish (way rows_tables node now unit.to wish.path) hop (not_first (nat_lt 16384 (length unit.octets)) causes.TooLong _ hop is).1 cut
+    hop_unspent node now unit wish (way rows_tables node now unit.to wish.path) hop (not_first (nat_lt 16384 (length unit.octets)) causes.TooLong _ hop is).1 cut
 
 -- none of what is held has a key that nothing of it has
 none_has : (P : Partial → Type 0) (key : Key) (held : List Partial) → ((partial : Partial) → P partial → has_key key partial ≡ true → ⊥) → AllByRecursion P held → HasNone key held
@@ -67,7 +52,7 @@ module _ (old : Net) (unit : CarriedUnit (List ℕ)) (wish : Wish) (node after :
   now = (link_of old.link).clock
 
   own : is_own_system node.setup unit.from ≡ true
-  own = and_last node.setup.end (is_own_system node.setup unit.from) changes.passes
+  own = and_second node.setup.end (is_own_system node.setup unit.from) changes.passes
 
   lives : node.setup.life ≡ old.life
   lives =

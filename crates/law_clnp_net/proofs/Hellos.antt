@@ -6,9 +6,9 @@ use Rattle.std.specs.Cmp.Lexicographic.{pointwise, same_text, nat_list_cmp_total
 use Rattle.std.specs.Ordering.{is_gt, nat_cmp, ordering_reverse}
 use Rattle.std.specs.declared.cmp.Ordering.{Ordering}
 use Rattle.std.specs.declared.cmp.Ordering.TheVariants.{Greater}
-use Rattle.std.proofs.lemmas.Bool.{not-true, or_parts}
+use Rattle.std.proofs.lemmas.Bool.{or_parts}
 use Rattle.std.proofs.lemmas.Bool.Decides.{nat_tests}
-use Rattle.std.proofs.lemmas.Cmp.{upto, tied_itself}
+use Rattle.std.proofs.lemmas.Cmp.{tied_itself}
 use Rattle.nsap.specs.declared.port.Hop.{Hop}
 use Rattle.nsap.specs.declared.port.Port.{Port}
 use Rattle.osi_base.specs.declared.note.HelloKind.{HelloKind}
@@ -34,6 +34,7 @@ use Rattle.esis_tables.specs.Swept.{names_in}
 use Rattle.esis_tables.proofs.Names.{is_among-append}
 use Rattle.esis_tables.proofs.Standing.{same_routers}
 use Rattle.esis_tables.proofs.Swept.{count_is_told, finds_what_is_told, stays_swept, stays_table}
+use Rattle.esis_tables.proofs.Routers.{upto_upto}
 use Rattle.clnp_system.specs.declared.source_routing.Aim.{Aim}
 use Rattle.clnp_system.specs.declared.source_routing.Aim.TheVariants.{Free, Entry, Forbidden}
 use Rattle.clnp_system.specs.declared.setup.Path.{Path}
@@ -61,11 +62,6 @@ clash h k = let e : true ≡ false = sym h ∙ k in absurd cc
 
 upto_itself : (title : List ℕ) → is_upto title title ≡ true
 upto_itself title = ap (λ (o : Ordering). not (is_gt o)) (tied_itself nat_list_cmp_total title)
-
-upto_upto : (first second third : List ℕ) → is_upto first second ≡ true → is_upto second third ≡ true → is_upto first third ≡ true
-upto_upto first second third one two =
-    ap not (upto nat_list_cmp_total first second third (not-true (is_gt (slice_cmp nat_cmp first second)) one)
-    (not-true (is_gt (slice_cmp nat_cmp second third)) two))
 
 turned : (o : Ordering) → not (is_gt o) ≡ false → not (is_gt (ordering_reverse o)) ≡ true
 turned Greater is = refl

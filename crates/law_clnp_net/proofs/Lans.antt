@@ -14,6 +14,7 @@ use Rattle.osi_base.specs.declared.unit.Wish.{Wish}
 use Rattle.osi_base.specs.Calls.{Offer, Choose, Tick}
 use Rattle.osi_base.specs.Gathering.{Gathers}
 use Rattle.osi_base.specs.Link.{IsLeastFresh, IsNote, IsUpTo}
+use Rattle.osi_base.proofs.Members.{all_both}
 use Rattle.nsap.specs.declared.port.Port.{Port}
 use Rattle.lan_step.specs.declared.row.Lan.{Lan}
 use Rattle.lan_step.specs.declared.row.PortRow.{PortRow}
@@ -24,7 +25,7 @@ use Rattle.lan_bag.specs.steps.Openings.{IsClosedTo, IsFirstOpen, is_open, is_op
 use Rattle.lan_bag.proofs.Openings.{least_fresh, none_fresh}
 use Rattle.law_clnp_net.specs.Frames.{GoesNowhere, GoesOnlyTo, HasWaiting, IsAt, IsSpent, sent, sent_at}
 use Rattle.law_clnp_net.proofs.Gathered.{bag_gathered}
-use Rattle.law_clnp_net.proofs.Spent.{all_more, all_ticked, closed_before, open_now, open_to_one, shut_once_taken, spent_at_once}
+use Rattle.law_clnp_net.proofs.Spent.{all_ticked, closed_before, open_now, open_to_one, shut_once_taken, spent_at_once}
 
 -- ---- the least pair
 
@@ -32,7 +33,7 @@ place_at : {X : Type 0} (xs : List X) (y : X) (ys : List X) → slice_get (xs ++
 place_at [] y ys = refl
 place_at (x ∷ xs) y ys = place_at xs y ys
 
-beyond : {X : Type 0} (xs : List X) → slice_get xs (length xs) ≡ None
+pub beyond : {X : Type 0} (xs : List X) → slice_get xs (length xs) ≡ None
 beyond [] = refl
 beyond (x ∷ xs) = beyond xs
 
@@ -139,7 +140,7 @@ module _ (bag : Bag) (frame : CarriedUnit Port) (frames : List (CarriedUnit Port
           spent = waits.spent ++ Some (marked first receiver) ∷ [];
           stands = sym (append_assoc waits.spent (Some (marked first receiver) ∷ []) (map (sent_at bag.clock) frames));
           are_spent =
-              all_more (IsSpent bag.clock bag.lans bag.rows) waits.spent (Some (marked first receiver) ∷ []) waits.are_spent
+              all_both (IsSpent bag.clock bag.lans bag.rows) waits.spent (Some (marked first receiver) ∷ []) waits.are_spent
               (shut_once_taken bag.clock bag.lans bag.rows frame receiver goes, tt);
           quiet = refl;
         }),
@@ -216,7 +217,7 @@ spent_behind bag frame waits nowhere = record {
   spent = waits.spent ++ sent_at bag.clock frame ∷ [];
   stands = waits.stands ∙ sym (append-nil (waits.spent ++ sent_at bag.clock frame ∷ []));
   are_spent =
-      all_more (IsSpent bag.clock bag.lans bag.rows) waits.spent (sent_at bag.clock frame ∷ []) waits.are_spent
+      all_both (IsSpent bag.clock bag.lans bag.rows) waits.spent (sent_at bag.clock frame ∷ []) waits.are_spent
       (spent_at_once bag.clock bag.lans bag.rows frame nowhere, tt);
   quiet = waits.quiet;
 }

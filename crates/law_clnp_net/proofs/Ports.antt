@@ -11,9 +11,10 @@ use Rattle.lan_step.specs.declared.row.PortRow.{PortRow}
 use Rattle.lan_step.specs.Frames.{Frame, is_taken, picked_of}
 use Rattle.lan_step.specs.Rows.{same_port, same_snpa}
 use Rattle.lan_step.specs.Receivers.{group_of_kind, is_one_of}
+use Rattle.law_clnp_step.proofs.Joined.{same_numbers}
 use Rattle.law_clnp_net.specs.Calm.{end_row}
 use Rattle.law_clnp_net.specs.Frames.{GoesNowhere, GoesOnlyTo}
-use Rattle.law_clnp_net.proofs.Addresses.{is_itself, turned}
+use Rattle.law_clnp_net.proofs.Addresses.{turned}
 
 -- ---- SNPAs
 
@@ -94,7 +95,7 @@ module _ (first second : ℕ) (here there : Port) (two : AreTwo first second her
   lan_here = ap (λ (n : ℕ). n == there.lan) two.lan ∙ its_own there.lan
 
   port_here : same_port here here ≡ true
-  port_here = (λ i. its_own here.lan i && is_itself here.snpa i)
+  port_here = (λ i. its_own here.lan i && same_numbers here.snpa i)
 
   and_false : (b : Bool) → (b && false) ≡ false
   and_false true = refl
@@ -108,7 +109,7 @@ module _ (first second : ℕ) (here there : Port) (two : AreTwo first second her
       (λ i. here.lan == there.lan && (two.snpas i || no_group there.snpa (0 ∷ 43 ∷ 0 ∷ 0 ∷ 4 ∷ []) two.single i)) ∙ and_false (here.lan == there.lan)
 
   named : is_one_of there y ≡ true
-  named = (λ i. its_own there.lan i && (is_itself there.snpa i || same_snpa (9 ∷ 0 ∷ 43 ∷ 0 ∷ 0 ∷ 4 ∷ []) there.snpa))
+  named = (λ i. its_own there.lan i && (same_numbers there.snpa i || same_snpa (9 ∷ 0 ∷ 43 ∷ 0 ∷ 0 ∷ 4 ∷ []) there.snpa))
 
   module _ (unit : CarriedUnit Port) (from : unit.from ≡ here) (to : unit.to ≡ there) where
     picks_first : (system : ℕ) (frame : Frame) → frame.unit ≡ unit → is_taken (picked_of (x ∷ y ∷ []) system frame) ≡ (system == second)

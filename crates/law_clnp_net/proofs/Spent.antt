@@ -2,7 +2,6 @@
 -- goes nowhere is spent as it is sent, and what is spent stays so at a tick.
 use Rattle.std.proofs.Common.{◌≡◌, ℕ, zero, suc, ◌+◌, Bool, true, false, not, ◌&&◌, ◌||◌, ◌==◌, if◌then◌else◌, List, [], ◌∷◌, ◌++◌, length, map, refl, ◌∙◌, ap, arith, Option, Some, None}
 use Rattle.std.specs.List.{AllByRecursion, list_any}
-use Rattle.std.proofs.lemmas.Bool.{or_parts}
 use Rattle.std.proofs.lemmas.Bool.Decides.{nat_tests}
 use Rattle.osi_base.specs.declared.unit.Unit.{Unit as CarriedUnit}
 use Rattle.nsap.specs.declared.port.Port.{Port}
@@ -10,25 +9,16 @@ use Rattle.lan_step.specs.declared.row.Lan.{Lan}
 use Rattle.lan_step.specs.declared.row.PortRow.{PortRow}
 use Rattle.lan_step.specs.Frames.{Frame, is_live, is_taken, kept_at, marked, picked_of}
 use Rattle.lan_bag.specs.steps.Openings.{IsClosedTo, is_open, is_open_to}
+use Rattle.lan_bag.proofs.Openings.{any_less, less_sooner}
 use Rattle.lan_step.proofs.Places.{marked_by}
 use Rattle.law_clnp_net.specs.Frames.{GoesNowhere, GoesOnlyTo, IsSpent, sent_at}
 
 -- ---- spent frames
 
 -- a test that no member passes
-any_never : {X : Type 0} (test : X → Bool) → ((x : X) → test x ≡ false) → (xs : List X) → list_any test xs ≡ false
+pub any_never : {X : Type 0} (test : X → Bool) → ((x : X) → test x ≡ false) → (xs : List X) → list_any test xs ≡ false
 any_never test never [] = refl
 any_never test never (x ∷ xs) = ap (λ (b : Bool). b || list_any test xs) (never x) ∙ any_never test never xs
-
-any_less : {X : Type 0} (p q : X → Bool) → ((x : X) → p x ≡ false → q x ≡ false) → (xs : List X) → list_any p xs ≡ false → list_any q xs ≡ false
-any_less p q less [] h = refl
-any_less p q less (x ∷ xs) h =
-    let parts = or_parts (p x) (list_any p xs) h in
-    ap (λ (c : Bool). c || list_any q xs) (less x parts.0) ∙ any_less p q less xs parts.1
-
-less_sooner : (clock : ℕ) (lans : List Lan) (rows : List PortRow) (frame : Frame) (system : ℕ) → is_open_to clock lans rows frame system ≡ false
-    → is_open_to (clock + 1) lans rows frame system ≡ false
-less_sooner clock lans rows frame system h = grind (arith, nat_tests)
 
 spent_ticked : (clock : ℕ) (lans : List Lan) (rows : List PortRow) (slot : Option Frame) → IsSpent clock lans rows slot → IsSpent (clock + 1) lans rows (kept_at (clock + 1) lans slot)
 spent_ticked clock lans rows None h = refl
@@ -44,10 +34,6 @@ pub all_ticked : (clock : ℕ) (lans : List Lan) (rows : List PortRow) (slots : 
     → AllByRecursion (IsSpent (clock + 1) lans rows) (map (kept_at (clock + 1) lans) slots)
 all_ticked clock lans rows [] h = tt
 all_ticked clock lans rows (slot ∷ slots) h = (spent_ticked clock lans rows slot h.0, all_ticked clock lans rows slots h.1)
-
-pub all_more : {X : Type 0} (P : X → Type 0) (xs ys : List X) → AllByRecursion P xs → AllByRecursion P ys → AllByRecursion P (xs ++ ys)
-all_more P [] ys h k = k
-all_more P (x ∷ xs) ys h k = (h.0, all_more P xs ys h.1 k)
 
 -- nothing before what waits can be taken by a system that has not taken it
 pub closed_before : (clock : ℕ) (lans : List Lan) (rows : List PortRow) (spent rest : List (Option Frame)) → AllByRecursion (IsSpent clock lans rows) spent

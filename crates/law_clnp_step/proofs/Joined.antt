@@ -20,7 +20,7 @@ use Rattle.law_clnp_step.proofs.Lists.{all_back, all_both, all_front, all_weaker
 
 -- ---- one unit for an identifier
 
-same_numbers : (xs : List ℕ) → pointwise nat_eq xs xs ≡ true
+pub same_numbers : (xs : List ℕ) → pointwise nat_eq xs xs ≡ true
 same_numbers [] = refl
 same_numbers (x ∷ xs) = grind (arith, same_numbers xs)
 

@@ -18,7 +18,7 @@ not_recent : (slot : Option ℕ) (since now life : ℕ) → slot ≡ Some since 
 not_recent None since now life is h = absurd cc
 not_recent (Some tick) since now life is h = let e : tick ≡ since = cc in let low : tick + life < now = leb-false now (tick + life) h in omega (arith, e, low)
 
-and_false : (a b : Bool) → a ≡ true → (a && b) ≡ false → b ≡ false
+pub and_false : (a b : Bool) → a ≡ true → (a && b) ≡ false → b ≡ false
 and_false true b e h = h
 and_false false b e h = absurd cc
 

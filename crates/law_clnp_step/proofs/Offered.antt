@@ -38,7 +38,7 @@ use Rattle.law_clnp_step.proofs.Carrying.{among_more}
 use Rattle.law_clnp_step.proofs.Handled.{IsKept, change_at, change_kept, change_setups, offers_kept}
 use Rattle.law_clnp_step.proofs.Joined.{held_more}
 use Rattle.law_clnp_step.proofs.Lists.{all_back, all_both, all_from_map, all_front, all_two, all_weaker, among_contains, among_last, among_left, contains_among, map_both}
-use Rattle.law_clnp_step.proofs.Numbered.{IsAfloatNow, all_numbered, fresh_id, new_numbered, next_fits}
+use Rattle.law_clnp_step.proofs.Numbered.{IsAfloatNow, all_numbered, and_false, fresh_id, new_numbered, next_fits}
 use Rattle.law_clnp_step.proofs.Received.{all_numbered_same, knows_at, timely_at}
 use Rattle.law_clnp_step.proofs.Seen.{belongs_same}
 
@@ -67,16 +67,12 @@ else_ok : (test : Bool) (cause : DropCause) (rest : Result Hop DropCause) (hop :
 else_ok true cause rest hop h = absurd cc
 else_ok false cause rest hop h = (refl, h)
 
-and_off : (a b : Bool) → a ≡ true → (a && b) ≡ false → b ≡ false
-and_off true b e h = h
-and_off false b e h = absurd cc
-
-hop_unspent : {N : Type 0} (node : Node N) (now : ℕ) (unit : CarriedUnit (List ℕ)) (wish : Wish) (found : Option Hop) (hop : Hop) → by_hop node now unit wish found ≡ Ok hop → wish.cut ≡ true
+pub hop_unspent : {N : Type 0} (node : Node N) (now : ℕ) (unit : CarriedUnit (List ℕ)) (wish : Wish) (found : Option Hop) (hop : Hop) → by_hop node now unit wish found ≡ Ok hop → wish.cut ≡ true
     → is_spent node now ≡ false
 hop_unspent node now unit wish None hop h cut = absurd cc
 hop_unspent node now unit wish (Some other) hop h cut =
     let first = else_ok (not wish.cut && nat_lt (room_of node.setup other.port.lan) (first_length node.setup unit wish)) _ _ hop h in
-    and_off wish.cut (is_spent node now) cut (else_ok (wish.cut && is_spent node now) _ (Ok other) hop first.1).0
+    and_false wish.cut (is_spent node now) cut (else_ok (wish.cut && is_spent node now) _ (Ok other) hop first.1).0
 
 sent_is : {N : Type 0} (tables : Tables N) (node : Node N) (now : ℕ) (unit : CarriedUnit (List ℕ)) (wish : Wish) (frames : List Frame) (after : Node N)
     → Sends tables node now unit wish (Ok frames) after → (after ≡ numbered_if wish.cut (at_tick now node) now) × (wish.cut ≡ true → is_spent node now ≡ false)

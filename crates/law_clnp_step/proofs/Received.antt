@@ -12,6 +12,7 @@ use Rattle.clnp_header.specs.declared.pdu.Pdu.{Pdu}
 use Rattle.clnp_header.specs.declared.pdu.SegmentPart.{SegmentPart}
 use Rattle.clnp_header.specs.Writing.{header_length}
 use Rattle.clnp_segment.specs.Joining.{Has, IsSegmentOf}
+use Rattle.clnp_segment.proofs.CutRuns.{get_left}
 use Rattle.clnp_system.specs.Deriving.{Carries, ComesFrom, DerivesFrom, IsForEnd, IsRun, IsWholeOrJoined, KeepsRest, StoresOrStays, Stays, Takes}
 use Rattle.clnp_system.specs.Deriving.{ComesIf as ComesFromIf}
 use Rattle.clnp_system.specs.Node.{Node, Reaction, Frame, at_tick}
@@ -34,18 +35,9 @@ get_behind [] ys at place e = let f : at ≡ place = omega (arith, e) in ap (sli
 get_behind (x ∷ xs) ys zero place e = absurd (omega (arith, e))
 get_behind (x ∷ xs) ys (suc at) place e = get_behind xs ys at place (omega (arith, e))
 
-get_front : (xs ys : List ℕ) (place octet : ℕ) → slice_get xs place ≡ Some octet → slice_get (xs ++ ys) place ≡ Some octet
-get_front [] ys place octet h = absurd (none_there place h)
-  where
-    none_there : (place : ℕ) → slice_get {X = ℕ} [] place ≡ Some octet → ⊥
-    none_there zero h = cc
-    none_there (suc place) h = cc
-get_front (x ∷ xs) ys zero octet h = h
-get_front (x ∷ xs) ys (suc place) octet h = get_front xs ys place octet h
-
 run_octets : (unit body : List ℕ) (offset position place octet : ℕ) → IsRun unit body offset → position ≡ offset + place → slice_get body place ≡ Some octet → slice_get unit position ≡ Some octet
 run_octets unit body offset position place octet r at is =
-    ap (λ (xs : List ℕ). slice_get xs position) r.parts ∙ get_behind r.before (body ++ r.after) position place (omega (arith, at, r.place)) ∙ get_front body r.after place octet is
+    ap (λ (xs : List ℕ). slice_get xs position) r.parts ∙ get_behind r.before (body ++ r.after) position place (omega (arith, at, r.place)) ∙ get_left body r.after place octet is
 
 -- ---- what stays
 

@@ -5,6 +5,7 @@ use Rattle.std.specs.List.{AllByRecursion}
 use Rattle.std.specs.Cmp.Lexicographic.{bytes_decides, pointwise}
 use Rattle.std.proofs.lemmas.Option.{none-some, same_Some}
 use Rattle.osi_base.specs.Link.{Link}
+use Rattle.osi_base.proofs.Members.{all_both}
 use Rattle.script_journal.specs.declared.event.Event.{Event as JournalEvent}
 use Rattle.tpdu.specs.Values.{format_for}
 use Rattle.tpdu.specs.Writing.{IsAllowed}
@@ -30,7 +31,6 @@ use Rattle.law_tp4_history.proofs.Meets.{swap}
 use Rattle.law_tp4_history.proofs.Sound.{one_partner}
 use Rattle.law_tp4_history.specs.Moves.{IsSourced, Sees, stop_of, times_of}
 use Rattle.tp4_world.specs.World.{World, entity_at, latest}
-use Rattle.tp4_world.proofs.Addressees.{all_append}
 use Rattle.law_tp4_lawful.proofs.Known.{IsKnown, IsReadAs, IsThere}
 use Rattle.law_tp4_lawful.proofs.Worlds.{Explains}
 use Rattle.law_tp4_associations.proofs.EndedWorlds.{IsFitWorld}
@@ -276,6 +276,6 @@ module _ {C : Type 0} (link : C → Link (List ℕ)) (titles : List (List ℕ)) 
         called = k.called;
         number = number_on link titles timers w journal old explains new post rest made a k.at_system k.own y k.entity k.end k.there k.stands (ap stop_of k.stage) k.number;
         past = k.past;
-        quiet = all_append (IsQuiet link x system from N b.to k.at_system k.own) rest (posted a.system a.acted.tpdus) k.quiet.1
+        quiet = all_both (IsQuiet link x system from N b.to k.at_system k.own) rest (posted a.system a.acted.tpdus) k.quiet.1
             (posted_each (IsQuiet link x system from N b.to k.at_system k.own) a.system a.acted.tpdus (sent_quiet (met_so link titles timers w journal old explains new post rest made a)));
       }

@@ -1,7 +1,6 @@
 -- What users ask where nothing waits, and raw units, as steps of two ends that know each other: a row of one of them, or neither sees anything of it.
-use Rattle.std.proofs.Common.{◌≡◌, ◌≢◌, ◌⊎◌, inl, inr, ℕ, Bool, true, false, List, [], ◌∷◌, ◌++◌, Option, Some, None, refl, sym, ◌∙◌, ap, subst}
-use Rattle.std.specs.Prelude.{◌==◌, ◌||◌, not}
-use Rattle.std.proofs.lemmas.Bool.{cases_eq, eqb-true}
+use Rattle.std.proofs.Common.{◌≡◌, ◌≢◌, ◌⊎◌, inl, inr, ℕ, List, [], ◌∷◌, ◌++◌, Option, Some, None, refl, sym, ◌∙◌, ap, subst}
+use Rattle.std.proofs.lemmas.Bool.{cases_eq}
 use Rattle.std.proofs.lemmas.Option.{none-some, same_Some}
 use Rattle.osi_base.specs.Link.{Link}
 use Rattle.script_journal.specs.Lawful.{shown, submitted}
@@ -11,7 +10,6 @@ use Rattle.tp4_conn.specs.Calls.{IsCall, call_refusal}
 use Rattle.tp4_conn.specs.End.{End, Moved, end_of, frozen_for}
 use Rattle.tp4_conn.specs.Making.{connected}
 use Rattle.tp4_conn.specs.Table.{Called, stepped}
-use Rattle.tp4_conn.specs.declared.call.CallRefusal.{CallRefusal}
 use Rattle.tp4_conn.specs.declared.call.ConnectRequest.{ConnectRequest}
 use Rattle.tp4_conn.specs.declared.call.UserCall.{UserCall}
 use Rattle.tp4_conn.specs.declared.end_record.EndRecord.{EndRecord}
@@ -20,8 +18,9 @@ use Rattle.tp4_conn.specs.declared.states.StateData.TheVariants as stages
 use Rattle.tp4_conn.specs.declared.timers.Timers.{Timers}
 use Rattle.tp4_entity.specs.Entity.{Acted, Entity, at, end_at, moved}
 use Rattle.tp4_entity.specs.References.{is_free_place, least_free}
-use Rattle.tp4_entity.specs.Step.{call_of, connecting, end_refusal, refused_by}
+use Rattle.tp4_entity.specs.Step.{call_of, connecting, end_refusal}
 use Rattle.tp4_entity.proofs.Standings.{free_least, within}
+use Rattle.law_tp4_proper.proofs.Ends.{not_refused}
 use Rattle.law_tp4_history.specs.Journals.{IsAside}
 use Rattle.law_tp4_history.specs.Tracks.{Whole}
 use Rattle.law_tp4_history.specs.Lines.{given}
@@ -61,20 +60,9 @@ pub idle_of : {C : Type 0} (link : C → Link (List ℕ)) (journal : List Journa
 idle_of {C} link journal world x y p f = record { forth = f.forth.waits_are; back = f.back.waits_are }
 
 -- an end that takes a call is not frozen
-call_goes : (b : EndRecord) (stage : StateData) (call : UserCall) → call_refusal b stage call ≡ None → stop_of stage ≡ None
+pub call_goes : (b : EndRecord) (stage : StateData) (call : UserCall) → call_refusal b stage call ≡ None → stop_of stage ≡ None
 call_goes b (stages.Frozen when) call may = absurd (cc may)
 call_goes b other call may = refl
-
-pub latest_is : (found number : ℕ) (gone : Bool) → (not (found == number) || gone) ≡ false → found ≡ number
-latest_is found number gone is = by (found == number) refl is
-  where
-    by : (same : Bool) → (found == number) ≡ same → (not same || gone) ≡ false → found ≡ number
-    by true at is = eqb-true found number at
-    by false at is = absurd (cc is)
-
-not_refused : (why : Option CallRefusal) → refused_by why ≡ None → why ≡ None
-not_refused None is = refl
-not_refused (Some why) is = absurd (cc is)
 
 -- the end that takes a call
 pub record IsTaker (entity : Entity) (reference : ℕ) (call : UserCall) : Type 0 where

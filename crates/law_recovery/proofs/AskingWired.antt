@@ -20,8 +20,8 @@ use Rattle.tp4_world.specs.Wire.{world_on_wire}
 use Rattle.tp4_world.specs.World.{World, end_numbered}
 use Rattle.tp4_world.specs.declared.place.Placed.{Placed}
 use Rattle.tp4_world.proofs.OnWire.{found_on}
+use Rattle.law_tp4_lawful.proofs.WorldStarts.{no_ends}
 use Rattle.law_calm_run.specs.Service.{end_at_number}
-use Rattle.law_calm_run.proofs.Wired.{no_ends}
 use Rattle.law_calm_run.proofs.WiredEnds.{placed_on, upper_end, upper_waiting}
 use Rattle.law_recovery_run.specs.Requesting.{AreListening, IsUnanswered}
 use Rattle.law_recovery.proofs.Wired.{run_above}

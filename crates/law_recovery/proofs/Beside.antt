@@ -6,6 +6,7 @@ use Rattle.std.specs.Cmp.Lexicographic.{pointwise}
 use Rattle.std.proofs.lemmas.Bool.{cases_eq}
 use Rattle.std.proofs.lemmas.Option.{none-some, same_Some}
 use Rattle.osi_base.specs.Link.{Link}
+use Rattle.osi_base.proofs.Members.{all_both}
 use Rattle.script_journal.specs.declared.event.Event.{Event as JournalEvent}
 use Rattle.tpdu.specs.Values.{destination_of}
 use Rattle.tpdu.specs.declared.service.Options.{Options}
@@ -36,9 +37,9 @@ use Rattle.tp4_world.specs.Telling.{ends_after}
 use Rattle.tp4_world.specs.World.{World, end_numbered, entity_at, latest, with_entity}
 use Rattle.tp4_world.specs.declared.place.EndAt.{EndAt}
 use Rattle.tp4_world.specs.declared.place.Placed.{Placed}
-use Rattle.tp4_world.proofs.Addressees.{all_append}
+use Rattle.tp4_world.proofs.Entities.{with_found}
 use Rattle.law_tp4_lawful.proofs.Known.{IsReadAs}
-use Rattle.law_tp4_lawful.proofs.Frames.{entity_other, entity_set}
+use Rattle.law_tp4_lawful.proofs.Frames.{entity_other}
 use Rattle.law_tp4_lawful.proofs.MakesPlaces.{at_other, at_same}
 use Rattle.law_tp4_lawful.proofs.ReferencesLater.{partners_on}
 use Rattle.law_tp4_lawful.proofs.Worlds.{Explains}
@@ -59,9 +60,11 @@ use Rattle.law_recovery.proofs.Outlasting.{end_keeps, made_so, row_stays}
 use Rattle.law_recovery.proofs.Deeds.{AreSame, Begins, HearsFirst}
 use Rattle.law_recovery.proofs.HalvesDeeds.{Deed, DoesRow, Heard, IsKept, New, Over, Row}
 use Rattle.law_recovery.proofs.Partner.{IsHalf, IsQuiet, IsStill, Parties, known, partner_stands, still_goes}
-use Rattle.law_recovery.proofs.Quiet.{Apart, all_of, all_quiet, answers_quiet, both_of, dr_plain, from_is, other_quiet, row_quiet, sources, taking_quiet}
+use Rattle.law_recovery.proofs.Quiet.{Apart, all_quiet, answers_quiet, dr_plain, from_is, other_quiet, row_quiet, sources, taking_quiet}
 use Rattle.law_recovery.proofs.Rows.{AreFlow, HasAccepted, IsAlone, IsDr, IsFlow, IsParting, StaysAccepted, StaysAsked, StaysOpened, accepted_alone, asked_alone, dr_row, left_alone, opened_alone}
 use Rattle.law_recovery_run.specs.Halves.{KnowsPartner}
+use Rattle.law_recovery_run.proofs.Doing.{each_all}
+use Rattle.law_recovery_run.proofs.Keeping.{both_of}
 use Rattle.law_recovery.proofs.Rowing.{frozen_of}
 use Rattle.law_recovery.proofs.Staying.{begins_keeps, heard_keeps, over_keeps, row_keeps, same_keeps}
 
@@ -107,7 +110,7 @@ module _ {C : Type 0} (old new : World C) (system : ℕ) (was is : Entity) (ther
         let z_is : z ≡ was = same_Some z was (sym at_s ∙ ap (entity_at old.entities) same ∙ there) in
         record {
           entity = is;
-          placed = ap (entity_at new.entities) same ∙ ap (λ (ps : List Placed). entity_at ps system) entities ∙ entity_set old.entities system was is there;
+          placed = ap (entity_at new.entities) same ∙ ap (λ (ps : List Placed). entity_at ps system) entities ∙ with_found old.entities system was is there;
           own_is = own ∙ ap (λ (e : Entity). e.own) (sym z_is);
           which = inl (same, z_is, refl);
         }
@@ -243,7 +246,7 @@ module _ {C : Type 0} (link : C → Link (List ℕ)) (names : List (List ℕ)) (
         number_same = ap (λ (es : List EndAt). latest es p.system p.reference) ends_same ∙ h.number
 
         later_quiet : AllByRecursion (Apart link names timers w journal old explains going t0 p posts h d.system) m.tpdus → AllByRecursion (IsQuiet p) later
-        later_quiet all = subst (AllByRecursion (IsQuiet p)) (sym d.later_is) (all_append (IsQuiet p) posts (posted d.system m.tpdus) h.quiet (posted_each (IsQuiet p) d.system m.tpdus all))
+        later_quiet all = subst (AllByRecursion (IsQuiet p)) (sym d.later_is) (all_both (IsQuiet p) posts (posted d.system m.tpdus) h.quiet (posted_each (IsQuiet p) d.system m.tpdus all))
 
         -- another end does it
         module _ (apart : d.system ≡ p.system → d.reference ≡ p.reference → ⊥) where
@@ -260,7 +263,7 @@ module _ {C : Type 0} (link : C → Link (List ℕ)) (names : List (List ℕ)) (
                     let far_is : d.entity ≡ h.far = same_Some d.entity h.far (sym d.there ∙ ap (entity_at old.entities) here.0 ∙ h.far_placed) in
                     let left : HasLeft d.end.stage = partner_stands link names timers w journal old explains t0 p posts h d.end ((λ i. end_at (sym far_is i) (sym here.1 i)) ∙ d.stands) in
                     row_quiet link names timers w journal old explains going t0 p posts h d.system d.entity d.there d.reference d.end d.stands d.event goes d.fit d.sourced d.may apart
-                    (all_of IsParting (λ (sent : Sent). d.system ≡ p.far_system → IsSentTo p.here p.reference sent → IsDr sent.tpdu) m.tpdus
+                    (each_all IsParting (λ (sent : Sent). d.system ≡ p.far_system → IsSentTo p.here p.reference sent → IsDr sent.tpdu) m.tpdus
                     (λ sent parting at_it to_it. elim parting [ inl dr ↦ dr | inr none ↦ absurd (none-some p.reference (sym none ∙ to_it.target)) ])
                     (left_alone (link old.carrier).clock d.end d.event d.alone left))
                 | inr not_partner ↦
@@ -513,7 +516,7 @@ module _ {C : Type 0} (link : C → Link (List ℕ)) (names : List (List ℕ)) (
           (λ same. apart (sym here) (sym same)))
           (ap (λ (es : List EndAt). latest es p.system p.reference) d.ends
           ∙ latest_elsewhere old.ends (record { system = d.system; reference = d.reference }) p.system p.reference (λ here same. apart (sym here) (sym same)) ∙ h.number)
-          (subst (AllByRecursion (IsQuiet p)) (sym d.later_is) (all_append (IsQuiet p) posts (posted d.system A.tpdus) h.quiet
+          (subst (AllByRecursion (IsQuiet p)) (sym d.later_is) (all_both (IsQuiet p) posts (posted d.system A.tpdus) h.quiet
           (posted_each (IsQuiet p) d.system A.tpdus (
             record {
               parting = λ at_it to_it. absurd (none-some p.reference to_it.target);
@@ -540,7 +543,7 @@ module _ {C : Type 0} (link : C → Link (List ℕ)) (names : List (List ℕ)) (
 
         heard_quiet : AllByRecursion (Apart link names timers w journal old explains going t0 p posts h d.acts.system) d.acts.acted.tpdus → AllByRecursion (IsQuiet p) later
         heard_quiet sends =
-            subst (AllByRecursion (IsQuiet p)) (sym d.later_is) (all_append (IsQuiet p) d.rest (posted d.acts.system d.acts.acted.tpdus) all.1 (posted_each (IsQuiet p) d.acts.system d.acts.acted.tpdus sends))
+            subst (AllByRecursion (IsQuiet p)) (sym d.later_is) (all_both (IsQuiet p) d.rest (posted d.acts.system d.acts.acted.tpdus) all.1 (posted_each (IsQuiet p) d.acts.system d.acts.acted.tpdus sends))
 
         stands_heard : (p.system ≡ d.acts.system → end_at d.acts.acted.entity p.reference ≡ end_at d.acts.entity p.reference) → latest new.ends p.system p.reference ≡ p.x
             → AllByRecursion (Apart link names timers w journal old explains going t0 p posts h d.acts.system) d.acts.acted.tpdus → IsHalf t0 p (journal ++ made) new later

@@ -1,16 +1,8 @@
 -- Ticks among what happens to a pair.
-use Rattle.std.proofs.Common.{◌≡◌, ◌+◌, ◌≤◌, List, [], ◌∷◌, ◌++◌, refl, ap, subst, arith}
-use Rattle.tp4_flow.specs.declared.step.Sent.{Sent}
-use Rattle.law_tp4_pair.specs.Pair.{Asks_called, Asks_calling, Clock, Comes_back, Comes_forth, Happening, Leads, Pair, comes_back, comes_forth, next as next_pair}
+use Rattle.std.proofs.Common.{◌≡◌, ◌+◌, ◌≤◌, List, [], ◌∷◌, ◌++◌, ap, subst, arith}
+use Rattle.law_tp4_pair.specs.Pair.{Asks_called, Asks_calling, Clock, Comes_back, Comes_forth, Happening, Leads, Pair, next as next_pair}
 use Rattle.law_recovery_steps.specs.Going.{AreTicked}
-
-forth_clock : (p : Pair) (l : List Sent) → (comes_forth p l).clock ≡ p.clock
-forth_clock p [] = refl
-forth_clock p (sent ∷ rest) = refl
-
-back_clock : (p : Pair) (l : List Sent) → (comes_back p l).clock ≡ p.clock
-back_clock p [] = refl
-back_clock p (sent ∷ rest) = refl
+use Rattle.law_recovery_steps.proofs.Pairs.{back_clock, forth_clock}
 
 rises : (happenings : List Happening) (p last : Pair) → Leads p happenings last → p.clock ≤ last.clock
 rises [] p last leads = let same : last.clock ≡ p.clock = ap (λ (q : Pair). q.clock) leads in omega (arith, same)

@@ -4,6 +4,7 @@ use Rattle.std.specs.List.{AllByRecursion}
 use Rattle.std.proofs.lemmas.Bool.{cases_eq, eqb-false, eqb-true}
 use Rattle.std.proofs.lemmas.Option.{same_Some}
 use Rattle.osi_base.specs.Link.{Link}
+use Rattle.osi_base.proofs.Members.{all_both}
 use Rattle.tp4_conn.specs.End.{End}
 use Rattle.tp4_conn.specs.Matching.{is_called_by}
 use Rattle.tp4_conn.specs.declared.end_record.EndRecord.{EndRecord}
@@ -14,9 +15,9 @@ use Rattle.tp4_entity.specs.Silence.{is_silent}
 use Rattle.tp4_world.specs.World.{World, entity_at, latest, with_entity}
 use Rattle.tp4_world.specs.declared.place.Placed.{Placed}
 use Rattle.tp4_world.proofs.Having.{with_any}
-use Rattle.law_tp4_lawful.proofs.Frames.{entity_other, entity_set}
+use Rattle.tp4_world.proofs.Entities.{with_found}
+use Rattle.law_tp4_lawful.proofs.Frames.{entity_other}
 use Rattle.law_calm_run.proofs.Hall.{Post}
-use Rattle.tp4_world.proofs.Addressees.{all_append}
 use Rattle.law_recovery_run.specs.Requesting.{AreListening, AreUnanswered, IsUnanswered}
 use Rattle.law_recovery_run.proofs.RequestComes.{AreRegistered, IsHere, IsPending, IsWaiting}
 use Rattle.law_recovery_run.proofs.Keeping.{IsKeptApart}
@@ -39,7 +40,7 @@ pub record Changes {C : Type 0} (link : C → Link (List ℕ)) (old new : World 
 
 module _ {C : Type 0} (link : C → Link (List ℕ)) (old new : World C) (a : Changes link old new) where
   pub changed_there : entity_at new.entities a.system ≡ Some a.changed
-  changed_there = ap (λ (ps : List Placed). entity_at ps a.system) a.entities ∙ entity_set old.entities a.system a.entity a.changed a.there
+  changed_there = ap (λ (ps : List Placed). entity_at ps a.system) a.entities ∙ with_found old.entities a.system a.entity a.changed a.there
 
   -- the entity of a system as it is now
   pub record IsNow (place : ℕ) (was : Entity) : Type 0 where
@@ -123,7 +124,7 @@ module _ {C : Type 0} (link : C → Link (List ℕ)) (old new : World C) (a : Ch
       unanswered = unanswered_on k.unanswered one;
       listens = listens_on b.to k.listens;
       selects = selects_on N b.to b.called k.selects;
-      apart = all_append (IsKeptApart system from N b r) posts more k.apart aside;
+      apart = all_both (IsKeptApart system from N b r) posts more k.apart aside;
     }
 
     pub still_pending : (posts more : List Post) → IsPending system x from N b r old posts → ((d : IsWaiting system x from N b r old) → d.at_system ≡ a.system → d.own ≡ a.reference → ⊥)
@@ -139,7 +140,7 @@ module _ {C : Type 0} (link : C → Link (List ℕ)) (old new : World C) (a : Ch
       here = here_on k.here apart;
       listens = listens_on b.to k.listens;
       selects = selects_on N b.to b.called k.selects;
-      apart = all_append (IsKeptApart system from N b r) posts more k.apart aside;
+      apart = all_both (IsKeptApart system from N b r) posts more k.apart aside;
       at_system = k.at_system;
       own = k.own;
       entity = n.entity;
@@ -152,7 +153,7 @@ module _ {C : Type 0} (link : C → Link (List ℕ)) (old new : World C) (a : Ch
       called = k.called;
       number = a.numbers k.at_system k.own apart_there ∙ k.number;
       past = k.past;
-      quiet = all_append (IsQuiet link x system from N b.to k.at_system k.own) posts more k.quiet quiet;
+      quiet = all_both (IsQuiet link x system from N b.to k.at_system k.own) posts more k.quiet quiet;
     }
 
     pub replied_on : (posts more : List Post) (k : IsReplied link x system from N b r old posts) → (system ≡ a.system → b.own ≡ a.reference → ⊥) → IsReplied link x system from N b r new (posts ++ more)

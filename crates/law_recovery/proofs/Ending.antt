@@ -50,11 +50,12 @@ use Rattle.law_recovery_run.specs.Recovered.{IsOver}
 use Rattle.law_recovery_run.specs.Following.{Stands}
 use Rattle.law_recovery_run.proofs.Fitting.{calls_fit}
 use Rattle.law_recovery_run.specs.Over.{HasLeftEnd}
-use Rattle.law_recovery.proofs.Numbers.{stands_at, left_by_number}
+use Rattle.law_recovery.proofs.Numbers.{left_by_number}
 use Rattle.law_recovery_world.specs.Steady.{EndsAreSteady, StageMade}
 use Rattle.law_recovery_run.specs.Requesting.{AreListening}
 use Rattle.law_recovery_run.proofs.RequestComes.{none_there}
 use Rattle.law_recovery_run.specs.Halves.{IsFrozenOrGone, KnowsPartner, IsNotAccepted}
+use Rattle.law_recovery_run.proofs.Numbers.{has_number}
 use Rattle.law_recovery.proofs.Accepted.{Answers, Confirms, IsAnswerable, IsAwaited, IsClosedBy, IsTriedBy, Keeps, kept as kept_answerable, not_closed}
 use Rattle.law_recovery.proofs.Beside.{Holds, kept}
 use Rattle.law_recovery.proofs.HalvesDeeds.{IsKept}
@@ -155,7 +156,7 @@ module _ {C : Type 0} (link : C → Link (List ℕ)) (steps : C → Call (List �
     module _ (h : IsHalf t0 p (early ++ late) last []) where
       -- it is that of its number
       it_is : end_at_number last x ≡ Some h.end
-      it_is = stands_at link names timers reached.w (early ++ late) last reached.explains x h.end
+      it_is = has_number link names timers reached.w (early ++ late) last reached.explains x h.end
           (record { system = p.system; reference = p.reference; entity = h.entity; is_end = record { there = h.placed; stands = h.stands; number = h.number } })
 
       timers_are : h.end.base.timers ≡ timers
@@ -208,7 +209,7 @@ module _ {C : Type 0} (link : C → Link (List ℕ)) (steps : C → Call (List �
         over_answerable : bound + timers.t1 ≤ (link last.carrier).clock → IsAnswerable link t0 bound p (early ++ late) last [] → IsNotAccepted last x
         over_answerable passed k d v at is =
             let h = k.half in
-            let it : end_at_number last x ≡ Some h.end = stands_at link names timers answered.w (early ++ late) last answered.explains x h.end
+            let it : end_at_number last x ≡ Some h.end = has_number link names timers answered.w (early ++ late) last answered.explains x h.end
             (record { system = p.system; reference = p.reference; entity = h.entity; is_end = record { there = h.placed; stands = h.stands; number = h.number } }) in
             let stage : h.end.stage ≡ stages.AkWait v = ap (λ (z : End). z.stage) (same_Some h.end d (sym it ∙ at)) ∙ is in
             let due_none = none_due (link last.carrier).clock h.entity p.reference h.end (answered.waiting p.system h.entity h.placed) h.stands in
@@ -230,7 +231,7 @@ module _ {C : Type 0} (link : C → Link (List ℕ)) (steps : C → Call (List �
       over_accepted far_gone = over_bound t0 (omega arith) (λ v at_place. not_closed t0 t0 p here_now.end.base.agreed [] v.base v.stage (frozen_out v.stage (far_gone v (its_end v at_place))))
         where
           its_end : (v : End) → end_at here_now.far left.reference ≡ Some v → end_at_number old y ≡ Some v
-          its_end v at_place = stands_at link names timers rests.w early old rests.explains y v (record {
+          its_end v at_place = has_number link names timers rests.w early old rests.explains y v (record {
             system = left.system;
             reference = left.reference;
             entity = here_now.far;

@@ -40,7 +40,7 @@ use Rattle.law_recovery.proofs.OutageRows.{keeps_up}
 
 -- ---- neither is left
 
-front_alone : (n system : ℕ) (made more : List Event) → IsLeftAlone n system (made ++ more) → IsLeftAlone n system made
+pub front_alone : (n system : ℕ) (made more : List Event) → IsLeftAlone n system (made ++ more) → IsLeftAlone n system made
 front_alone n system made more a = record {
   user = λ octets there. a.user octets (Contains-append_left made more (events.Disconnect n octets) there);
   again = λ there. a.again (Contains-append_left made more (events.Restart system) there);
@@ -59,7 +59,7 @@ live_number : (same gone : Bool) → (not same || gone) ≡ false → same ≡ t
 live_number true gone is = refl
 live_number false gone is = absurd (cc is)
 
-swapped : (journal : List Event) (x y : ℕ) → ArePartners journal x y → ArePartners journal y x
+pub swapped : (journal : List Event) (x y : ℕ) → ArePartners journal x y → ArePartners journal y x
 swapped journal x y (inl are) = inr are
 swapped journal x y (inr are) = inl are
 

@@ -40,7 +40,7 @@ use Rattle.law_recovery_run.proofs.Beside.{latest_elsewhere}
 use Rattle.law_recovery_run.proofs.Waiting.{posted_each}
 use Rattle.law_recovery_run.specs.Requesting.{IsUnanswered, in_cr_wait}
 use Rattle.law_recovery_run.proofs.RequestComes.{IsHere, IsPending}
-use Rattle.law_recovery.proofs.Asking.{at_place}
+use Rattle.law_recovery.proofs.Asking.{at_place, call_goes}
 use Rattle.law_recovery_run.specs.Asked.{By_user}
 use Rattle.law_recovery.proofs.Accepting.{only_called, quiet_row}
 use Rattle.law_recovery.proofs.Elsewhere.{Changes, accepted_on, bare_on, changed_there, here_on, listens_on, replied_on, selects_on, still_pending}
@@ -57,16 +57,6 @@ parts b r (asks.Refuse octets) may = absurd (cc may)
 parts b r (asks.Normal octets) may = absurd (cc may)
 parts b r (asks.Urgent octets) may = absurd (cc may)
 parts b r (asks.Window credit) may = absurd (cc may)
-
--- an end that takes a call is not frozen
-call_goes : (b : EndRecord) (stage : StateData) (call : UserCall) → call_refusal b stage call ≡ None → stop_of stage ≡ None
-call_goes b (stages.CrWait w) call may = refl
-call_goes b (stages.WaitBeforeClose w) call may = refl
-call_goes b (stages.UserWait since) call may = refl
-call_goes b (stages.AkWait w) call may = refl
-call_goes b (stages.Opened o) call may = refl
-call_goes b (stages.Closing c) call may = refl
-call_goes b (stages.Frozen when) call may = absurd (cc may)
 
 -- ---- a call
 

@@ -44,10 +44,7 @@ use Rattle.law_recovery.specs.AskingAlong.{AcceptsAlong, AsksAlong, HasIndicated
 use Rattle.law_recovery.specs.Laws.{AlongRunsAsk, TriesArePast}
 use Rattle.law_recovery.proofs.HalvesRowing.{for_caller}
 use Rattle.law_recovery.proofs.TickRows.{frozen_of}
-
-turned : (journal : List Event) (x y : ℕ) → ArePartners journal x y → ArePartners journal y x
-turned journal x y (inl one) = inr one
-turned journal x y (inr one) = inl one
+use Rattle.law_recovery.proofs.Following.{swapped as turned}
 
 module _ {C : Type 0} (link : C → Link (List ℕ)) (steps : C → Call (List ℕ) → C → Type 0) (calls_of : RunsAreCalls link steps whole) (ready_of : RunsAreReady link steps) (goes_of : RunsGoOn link steps)
     (numbers_of : EndsHaveNumbers link steps) (alone_of : PartnersAreAlone link steps) (views_of : CallsHaveViews link steps) (steady_of : CallsKeepSteady link steps) (past_of : TriesArePast link steps) where

@@ -17,13 +17,13 @@ use Rattle.law_recovery_run.proofs.Aiming.{Going}
 use Rattle.law_recovery.proofs.Deeds as walked
 use Rattle.law_recovery.proofs.Deeds.{Asks, EndTicks, KeepsHeard, KeepsStill, EndDoes}
 use Rattle.law_recovery.proofs.Lasting.{settle_keeps}
-use Rattle.law_recovery.proofs.Outlasting.{kept_is}
 use Rattle.law_recovery.proofs.Ticking.{going_kept}
 use Rattle.law_recovery.proofs.HalvesDeeds.{DoesRow, Heard, IsKept, New, Over, Row}
 use Rattle.std.proofs.lemmas.Option.{same_Some}
 use Rattle.tp4_conn.specs.Living.{IsFit}
 use Rattle.tp4_conn.specs.Proper.{IsProperEvent}
 use Rattle.law_tp4_history.specs.Moves.{IsSourced, stop_of}
+use Rattle.law_recovery_world.proofs.SeeSteps.{kept_at}
 use Rattle.law_recovery_run.proofs.Naming.{NamedBy}
 use Rattle.law_recovery.proofs.Rows.{IsAlone}
 
@@ -62,7 +62,7 @@ asks_row {C} link old new made posts later d = row_of link old new made posts la
 ticks_row : {C : Type 0} (link : C → Link (List ℕ)) (old new : World C) (made : List Event) (posts later : List Post) → EndTicks link old new made posts later → DoesRow link old new made posts later
 ticks_row {C} link old new made posts later d =
     let m : Moved = stepped whole (link old.carrier).clock d.does.end Ticked in
-    row_of link old new made posts later 0 Ticked (λ (m : Moved). kept_end m (due m.base m.stage)) d.does tt tt tt tt (λ n named. named) (kept_is m (due m.base m.stage)) (λ none. going_kept m m.base m.stage none)
+    row_of link old new made posts later 0 Ticked (λ (m : Moved). kept_end m (due m.base m.stage)) d.does tt tt tt tt (λ n named. named) (kept_at m (due m.base m.stage)) (λ none. going_kept m m.base m.stage none)
 
 module _ {C : Type 0} (link : C → Link (List ℕ)) (steps : C → Call (List ℕ) → C → Type 0)
     (law : (old : C) (call : Call (List ℕ)) (new : C) → steps old call new → Keeps (link old) call (link new))

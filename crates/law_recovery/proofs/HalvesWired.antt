@@ -13,9 +13,9 @@ use Rattle.tp4_conn.specs.declared.states.InAkWait.{InAkWait}
 use Rattle.tp4_conn.specs.declared.states.StateData.{StateData}
 use Rattle.tp4_conn.specs.declared.states.StateData.TheVariants as stages
 use Rattle.tp4_conn.specs.declared.timers.Timers.{Timers}
-use Rattle.tp4_entity.specs.Association.{is_frozen}
 use Rattle.tp4_entity.specs.Entity.{Entity, end_at}
 use Rattle.tp4_entity.specs.Wire.{entity_on_wire}
+use Rattle.tp4_entity.proofs.Wires.{frozen_on}
 use Rattle.law_tp4_pair.specs.Standing.{HasLeft}
 use Rattle.tp4_world.specs.First.{HasNoEnd}
 use Rattle.tp4_world.specs.Laws.{WholeLine, WholeRun}
@@ -23,8 +23,8 @@ use Rattle.tp4_world.specs.Wire.{world_on_wire}
 use Rattle.tp4_world.specs.World.{World, end_numbered, entity_at, latest}
 use Rattle.tp4_world.specs.declared.place.Placed.{Placed}
 use Rattle.tp4_world.proofs.OnWire.{found_on}
+use Rattle.law_tp4_lawful.proofs.WorldStarts.{no_ends}
 use Rattle.law_calm_run.specs.Service.{end_at_number, end_placed}
-use Rattle.law_calm_run.proofs.Wired.{no_ends}
 use Rattle.law_calm_run.proofs.WiredEnds.{placed_on, upper_end, upper_open}
 use Rattle.law_recovery_run.specs.Requesting.{AreListening}
 use Rattle.law_recovery_run.specs.Ready.{HasStarted}
@@ -48,10 +48,6 @@ left_above (stages.WaitBeforeClose w) left = tt
 left_above (stages.Closing c) left = tt
 left_above (stages.Frozen when) left = tt
 left_above stage left = left
-
-frozen_above : (stage : StateData) → is_frozen (stage_on_wire stage) ≡ is_frozen stage
-frozen_above (stages.UserWait since) = refl
-frozen_above stage = refl
 
 accepted_above : (stage : StateData) (lower : InAkWait) → stage_on_wire stage ≡ stages.AkWait lower → (v : InAkWait) × (stage ≡ stages.AkWait v)
 accepted_above (stages.AkWait v) lower is = (v, refl)
@@ -91,7 +87,7 @@ not_accepted_on_wire last number none e w stands accepted =
     none upper.end there.0 upper.stands there.1
 
 gone_above : {C : Type 0} (world : World C) (y : ℕ) → IsFrozenOrGone (world_on_wire world) y → IsFrozenOrGone world y
-gone_above world y gone e stands = sym (frozen_above e.stage) ∙ gone (end_on_wire e) (lower_end world y e stands)
+gone_above world y gone e stands = sym (frozen_on e.stage) ∙ gone (end_on_wire e) (lower_end world y e stands)
 
 listens_above : {C : Type 0} (now : ℕ) (world : World C) (to : List ℕ) → AreListening now (world_on_wire world) to → AreListening now world to
 listens_above now world to listens system entity there own = listens system (entity_on_wire entity) (found_on world.entities system ∙ ap (option_map entity_on_wire) there) own

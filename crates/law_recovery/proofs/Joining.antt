@@ -5,7 +5,7 @@ use Rattle.std.specs.List.{AllByRecursion}
 use Rattle.std.proofs.Math.Nat.{mul-le-mul_right}
 use Rattle.std.proofs.lemmas.Bool.{eqb-true}
 use Rattle.std.proofs.lemmas.Option.{none-some}
-use Rattle.std.proofs.lemmas.List.Elements.{Contains-append_left, Contains-append_right}
+use Rattle.std.proofs.lemmas.List.Elements.{Contains-append_right}
 use Rattle.osi_base.specs.Calls.{Call}
 use Rattle.osi_base.specs.Link.{Link, IsLeastFresh}
 use Rattle.osi_base.specs.declared.unit.Unit.{Unit as CarriedUnit}
@@ -51,6 +51,7 @@ use Rattle.law_recovery.specs.Laws.{PartnersStay, CalmAreUpToDate, RecoveringIsK
 use Rattle.law_recovery.specs.Staying.{IsLeftAlone, IsOpenedSince}
 use Rattle.law_recovery.specs.Outage.{AreKept, AreKeptCalm, AreOrdered, IsShort, RunsThrough}
 use Rattle.law_recovery.proofs.OutageLines.{lines_joined}
+use Rattle.law_recovery.proofs.Following.{front_alone}
 
 -- ---- the end of a number, where it was made
 
@@ -100,12 +101,6 @@ turned t t0 now journal last calling called b = record {
   called_open = b.calling_open;
   there = b.here;
   here = b.there;
-}
-
-front_alone : (end system : ℕ) (lost late : List Event) → IsLeftAlone end system (lost ++ late) → IsLeftAlone end system lost
-front_alone end system lost late a = record {
-  user = λ octets there. a.user octets (Contains-append_left lost late (events.Disconnect end octets) there);
-  again = λ there. a.again (Contains-append_left lost late (events.Restart system) there);
 }
 
 module _ {C : Type 0} (link : C → Link (List ℕ)) (steps : C → Call (List ℕ) → C → Type 0) (lines_of : LinesAreCalls link steps whole) (calls_of : RunsAreCalls link steps whole)

@@ -75,10 +75,11 @@ use Rattle.law_calm_run.proofs.Queueing.{all_parts, none_dropped, raw_behind}
 use Rattle.law_calm_run.proofs.Ticking as calm_ticking
 use Rattle.law_recovery_run.proofs.Aiming.{Going}
 use Rattle.law_recovery_run.proofs.Coming.{StandsSo, delivered, TellsNoUnits}
-use Rattle.law_recovery.proofs.Asking.{IsTaker, taker, latest_is}
+use Rattle.law_recovery.proofs.Asking.{IsTaker, taker}
 use Rattle.tp4_world.specs.Called.{Did, KeepsLimits, WorldCall}
 use Rattle.law_tp4_lawful.proofs.WorldCalls.{did_holds}
 use Rattle.law_tp4_lawful.proofs.WorldOutcomes.{one_unit, outcomes}
+use Rattle.law_tp4_lawful.proofs.WorldSteps.{latest_is}
 use Rattle.std.proofs.lemmas.List.Quantifiers.{position-Some}
 use Rattle.std.proofs.lemmas.Option.{none-some, same_Some, slice_get-get_or}
 use Rattle.tp4_entity.proofs.PlaceLaws.{end_at_of}

@@ -25,7 +25,7 @@ use Rattle.law_recovery.proofs.Ticking.{later_of, HasTicked, IsToldGone, begins,
 use Rattle.law_recovery_run.specs.Over.{HaveLeft, KeepsLeft}
 use Rattle.law_recovery.proofs.Clocks.{none_ticks, ticked_then}
 use Rattle.law_recovery.proofs.Lasting.{settle_keeps}
-use Rattle.law_recovery.proofs.Outlasting.{left_end, kept_is}
+use Rattle.law_recovery.proofs.Outlasting.{left_end}
 use Rattle.law_recovery.proofs.Telling.{handed_told, told_on, told_then, happens_then}
 use Rattle.law_recovery.proofs.Staying.{same_keeps, begins_keeps, both_keep, heard_keeps, over_keeps, row_keeps}
 use Rattle.std.proofs.lemmas.Option.{same_Some}
@@ -36,6 +36,7 @@ use Rattle.law_tp4_history.specs.Journals.{IsAside}
 use Rattle.law_tp4_history.specs.Tracks.{Whole}
 use Rattle.law_recovery_run.specs.Service.{HappensAt}
 use Rattle.law_recovery_steps.specs.Resting.{AreLater}
+use Rattle.law_recovery_world.proofs.SeeSteps.{kept_at}
 use Rattle.law_recovery.proofs.Stepping.{HasMoved}
 use Rattle.law_recovery_run.proofs.Delivering.{HasComeOn, handed_over}
 use Rattle.law_recovery.proofs.Deeds.{AreSame, EndTicks, IsKept, KeepsHeard, KeepsStill}
@@ -180,7 +181,7 @@ module _ {C : Type 0} (link : C → Link (List ℕ)) (steps : C → Call (List �
 
       keeps : KeepsLeft old new
       keeps = row_keeps link names timers w (early ++ late) old explains new d.does.system d.does.entity d.does.there d.does.reference d.does.end Ticked (kept_end m (due m.base m.stage)) d.does.stands
-          (kept_is m (due m.base m.stage)) d.does.entities d.does.ends
+          (kept_at m (due m.base m.stage)) d.does.entities d.does.ends
 
       on : (q : Pair) → AreTicking before start q late old posts → HasTicked link (till before start) ((early ++ late) ++ made) new later x y q
       on q g = subst (λ (ps : List Post). HasTicked link (till before start) ((early ++ late) ++ made) new ps x y q) (sym d.does.later_is) (elim g.ticked.goes [

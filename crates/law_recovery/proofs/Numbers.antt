@@ -1,23 +1,16 @@
 -- The end of a number, where it stands; and one that has left is Opened no more.
-use Rattle.std.proofs.Common.{◌≡◌, ℕ, ◌==◌, Bool, true, false, List, Option, Some, None, refl, sym, ◌∙◌, ap, subst}
+use Rattle.std.proofs.Common.{◌≡◌, ℕ, ◌==◌, Bool, true, false, Option, Some, None, refl, sym, ◌∙◌, ap, subst}
 use Rattle.std.specs.Prelude.{if◌then◌else◌, option_and_then}
-use Rattle.std.proofs.lemmas.Bool.{eq-eqb, eqb-true}
+use Rattle.std.proofs.lemmas.Bool.{eqb-true}
 use Rattle.std.proofs.lemmas.Option.{none-some}
-use Rattle.osi_base.specs.Link.{Link}
-use Rattle.script_journal.specs.declared.event.Event.{Event}
 use Rattle.tp4_conn.specs.End.{End}
 use Rattle.tp4_conn.specs.declared.states.InOpened.{InOpened}
 use Rattle.tp4_conn.specs.declared.states.StateData.TheVariants.{Opened}
-use Rattle.tp4_conn.specs.declared.timers.Timers.{Timers}
 use Rattle.tp4_entity.specs.Entity.{Entity, end_at}
-use Rattle.law_tp4_history.specs.Tracks.{Whole}
 use Rattle.law_tp4_pair.specs.Standing.{HasLeft}
 use Rattle.tp4_world.specs.World.{World, entity_at, latest}
-use Rattle.law_tp4_lawful.proofs.Worlds.{Explains}
 use Rattle.law_calm_run.specs.Service.{end_at_number, end_placed}
-use Rattle.law_recovery_run.specs.Following.{Stands}
 use Rattle.law_recovery_run.specs.Over.{HasLeftEnd}
-use Rattle.law_recovery.proofs.Outlasting.{made_so}
 
 -- an end that has left, by its number
 pub left_by_number : {C : Type 0} (last : World C) (x : ℕ) → HasLeftEnd last x → (e : End) → end_at_number last x ≡ Some e → HasLeft e.stage
@@ -34,10 +27,3 @@ left_by_number {C} last x h e at = by_number (latest last.ends h.system h.refere
 
 pub left_over : {C : Type 0} (last : World C) (x : ℕ) → HasLeftEnd last x → (e : End) (o : InOpened) → end_at_number last x ≡ Some e → e.stage ≡ Opened o → ⊥
 left_over {C} last x h e o at opened = subst HasLeft opened (left_by_number last x h e at)
-
-pub stands_at : {C : Type 0} (link : C → Link (List ℕ)) (titles : List (List ℕ)) (timers : Timers) (w : Whole) (journal : List Event) (last : World C) → Explains link titles timers w journal last
-    → (x : ℕ) (e : End) → Stands last x e → end_at_number last x ≡ Some e
-stands_at {C} link titles timers w journal last explains x e s =
-    ap (end_placed last x) (made_so link titles timers w journal last explains x e s)
-    ∙ ap (λ (b : Bool). if b then option_and_then (λ (z : Entity). end_at z s.reference) (entity_at last.entities s.system) else None) (eq-eqb (latest last.ends s.system s.reference) x s.is_end.number)
-    ∙ ap (option_and_then (λ (z : Entity). end_at z s.reference)) s.is_end.there ∙ s.is_end.stands

@@ -15,7 +15,7 @@ use Rattle.tp4_world.specs.Run.{RunsLine, RunsLines}
 use Rattle.tp4_world.specs.Wire.{world_on_wire}
 use Rattle.tp4_world.specs.World.{World}
 use Rattle.tp4_world.specs.declared.place.Placed.{Placed}
-use Rattle.law_calm_run.proofs.Wired.{no_ends}
+use Rattle.law_tp4_lawful.proofs.WorldStarts.{no_ends}
 use Rattle.law_recovery.proofs.Wired.{lines_above}
 use Rattle.law_recovery.specs.Laws.{OutagesOnWire}
 use Rattle.law_recovery.specs.Outage.{AreKept, AreKeptCalm, CalmOutagesFrom, OutagesFrom, RunsThrough}

@@ -4,21 +4,20 @@ use Rattle.std.specs.Prelude.{if◌then◌else◌, not}
 use Rattle.std.specs.List.{list_any}
 use Rattle.std.proofs.Math.Dec.{eqb-suc-zero}
 use Rattle.std.proofs.lemmas.Bool.{cases_eq, ne_eqb}
-use Rattle.std.proofs.lemmas.Option.{none-some, same_Some, slice_get-get_or, slice_get_within}
+use Rattle.std.proofs.lemmas.Option.{same_Some, slice_get-get_or}
 use Rattle.osi_base.specs.Link.{Link}
 use Rattle.script_journal.specs.declared.event.Event.{Event as JournalEvent}
 use Rattle.tpdu.specs.Values.{destination_of}
 use Rattle.tpdu.specs.declared.tpdu.Tpdu.{Tpdu as WireTpdu}
 use Rattle.tpdu.specs.declared.tpdu.Tpdu.TheVariants as wires
 use Rattle.tp4_number.specs.Number.{whole}
-use Rattle.tp4_conn.specs.End.{End, Moved, end_of}
+use Rattle.tp4_conn.specs.End.{End, end_of}
 use Rattle.tp4_conn.specs.Matching.{is_match}
 use Rattle.tp4_conn.specs.Table.{Event, Took, stepped}
 use Rattle.tp4_conn.specs.declared.timers.Timers.{Timers}
 use Rattle.tp4_entity.specs.Association.{is_called, is_registered, met, met_at, met_by, new_end, requested, unmatched}
 use Rattle.tp4_entity.specs.Entity.{Acted, Entity, at, end_at, moved, with_end}
 use Rattle.tp4_entity.specs.References.{least_free}
-use Rattle.tp4_entity.specs.Step.{kept_end}
 use Rattle.tp4_entity.proofs.Standings.{free_least, within}
 use Rattle.law_tp4_history.specs.Tracks.{Whole}
 use Rattle.law_tp4_pair.specs.Standing.{HasLeft}
@@ -35,6 +34,7 @@ use Rattle.law_tp4_lawful.proofs.Known.{IsKnown, IsThere}
 use Rattle.law_tp4_lawful.proofs.MakesPlaces.{at_other, at_same, latest_last}
 use Rattle.law_tp4_lawful.proofs.ReferencesHalves.{known_at}
 use Rattle.law_tp4_lawful.proofs.Worlds.{Explains}
+use Rattle.law_tp4_associations.proofs.HeldPlaces.{number_low}
 use Rattle.law_recovery_run.proofs.Aside.{either}
 use Rattle.law_recovery_run.proofs.Beside.{latest_elsewhere}
 use Rattle.law_recovery_run.specs.Following.{Stands}
@@ -60,10 +60,6 @@ at_suc ends k = ap (λ (b : Bool). if b then None else slice_get ends (suc k - 1
 numbered_on : (ends : List EndAt) (x : ℕ) (one more : EndAt) → end_numbered ends x ≡ Some one → end_numbered (ends ++ more ∷ []) x ≡ Some one
 numbered_on ends zero one more is = absurd (cc is)
 numbered_on ends (suc k) one more is = at_suc (ends ++ more ∷ []) k ∙ slice_within ends k one more (sym (at_suc ends k) ∙ is)
-
-numbered_low : (ends : List EndAt) (x : ℕ) (one : EndAt) → end_numbered ends x ≡ Some one → x ≤ length ends
-numbered_low ends zero one is = absurd (cc is)
-numbered_low ends (suc k) one is = let low = slice_get_within ends k one (sym (at_suc ends k) ∙ is) in omega (arith, low)
 
 -- ---- what it comes to
 
@@ -105,7 +101,7 @@ module _ {C : Type 0} (old new : World C) (now system : ℕ) (entity changed : E
       ]
       here (New reference place least is ends) = elim (cases_eq r reference) [
         | inl at_it ↦
-            let low : x ≤ length old.ends = numbered_low old.ends x (record { system = s; reference = r }) h.made in
+            let low : x ≤ length old.ends = number_low old.ends x (record { system = s; reference = r }) h.made in
             let last : latest new.ends s r ≡ length old.ends + 1 =
             ap (λ (es : List EndAt). latest es s r) ends ∙ (λ i. latest (old.ends ++ record { system = system; reference = reference } ∷ []) (same i) (at_it i)) ∙ latest_last old.ends system reference in
             absurd (omega (arith, low, last, number))
@@ -192,10 +188,6 @@ module _ {C : Type 0} (link : C → Link (List ℕ)) (titles : List (List ℕ)) 
     met_kind = by_kind t refl
 
 -- ---- an end that stands and has left
-
-pub kept_is : (m : Moved) (tick : Option ℕ) (z : End) → kept_end m tick ≡ Some z → z ≡ end_of m
-kept_is m None z is = absurd (none-some z is)
-kept_is m (Some tick) z is = sym (same_Some (end_of m) z is)
 
 pub end_keeps : {C : Type 0} (old new : World C) (x : ℕ) → KeepsLeft old new → HasLeftEnd old x → HasLeftEnd new x
 end_keeps {C} old new x keeps h = record { system = h.system; reference = h.reference; at = keeps x h.system h.reference h.at }

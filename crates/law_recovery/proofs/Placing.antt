@@ -8,6 +8,7 @@ use Rattle.tpdu.specs.Values.{TpduAndSum, destination_of}
 use Rattle.tpdu.specs.declared.tpdu.Tpdu.{Tpdu}
 use Rattle.tpdu.specs.declared.tpdu.Tpdu.TheVariants.{Cr, Cc, Dr, Dc, Dt, Ed, Ak, Ea, Er}
 use Rattle.tp4_number.specs.Number.{whole}
+use Rattle.tp4_number.proofs.Past.{if_kept}
 use Rattle.tp4_flow.specs.declared.step.EndEvent.{EndEvent}
 use Rattle.tp4_flow.specs.declared.step.What.{What}
 use Rattle.tp4_flow.specs.declared.step.What.TheVariants as whats
@@ -24,7 +25,6 @@ use Rattle.tp4_conn.specs.declared.states.InOpened.{InOpened}
 use Rattle.tp4_conn.specs.declared.states.StateData.{StateData}
 use Rattle.tp4_conn.specs.declared.states.StateData.TheVariants.{Opened}
 use Rattle.tp4_conn.specs.declared.timers.Timers.{Timers}
-use Rattle.tp4_conn.proofs.Timely.{if_kept}
 use Rattle.tp4_entity.specs.Association.{calls, is_called, is_registered, met, met_by, new_end, requested, unmatched}
 use Rattle.tp4_entity.specs.Entity.{Acted, Entity, at, end_at, moved, with_end}
 use Rattle.tp4_entity.specs.References.{is_free_place, least_free, was_frozen}
@@ -36,11 +36,12 @@ use Rattle.tp4_world.specs.Telling.{ends_after, ends_with}
 use Rattle.tp4_world.specs.World.{entity_at, latest, with_entity}
 use Rattle.tp4_world.specs.declared.place.EndAt.{EndAt}
 use Rattle.tp4_world.specs.declared.place.Placed.{Placed}
+use Rattle.tp4_world.proofs.Entities.{with_found}
 use Rattle.law_tp4_lawful.proofs.Acting.{IsLike}
 use Rattle.law_tp4_lawful.proofs.Acts.{stage_of}
 use Rattle.law_tp4_lawful.proofs.ActsRows.{AreTold, row_of}
 use Rattle.law_tp4_lawful.proofs.ActsTold.{ends_stay}
-use Rattle.law_tp4_lawful.proofs.Frames.{entity_other, entity_set, place_other, place_there, same_ends}
+use Rattle.law_tp4_lawful.proofs.Frames.{entity_other, place_other, place_there, same_ends}
 use Rattle.law_tp4_lawful.proofs.Known.{IsKnown, IsThere, Known}
 use Rattle.law_tp4_lawful.proofs.MakesPlaces.{at_other}
 use Rattle.law_tp4_lawful.proofs.WorldPlaces.{some_same}
@@ -112,7 +113,7 @@ module _ (titles : List (List ℕ)) (timers : Timers) (w : Whole) (journal : Lis
   at_place : (new : Entity) (after : List EndAt) (e : End) → place_system ≡ system → end_at new place ≡ Some e → latest after system place ≡ latest ends system place → IsUp timers s e → After new after
   at_place new after e same stands number up = record {
     entity = new;
-    there = ap (entity_at (with_entity entities system new)) same ∙ entity_set entities system entity new is;
+    there = ap (entity_at (with_entity entities system new)) same ∙ with_found entities system entity new is;
     e = e;
     stands = stands;
     number = ap (λ (k : ℕ). latest after k place) same ∙ number ∙ ap (λ (k : ℕ). latest ends k place) (sym same) ∙ here.number;

@@ -1,5 +1,5 @@
 -- What happens in a network beside an end that stands half-open: what is sent stays so that only a DR comes for it from its partner, and only its CC waits in its name.
-use Rattle.std.proofs.Common.{◌≡◌, ◌≢◌, ◌⊎◌, inl, inr, ℕ, Bool, true, false, List, [], ◌∷◌, Option, Some, None, refl, sym, ◌∙◌, ap, subst}
+use Rattle.std.proofs.Common.{◌≡◌, ◌≢◌, ◌⊎◌, inl, inr, ℕ, Bool, true, false, List, ◌∷◌, Option, Some, None, refl, sym, ◌∙◌, ap, subst}
 use Rattle.std.specs.Prelude.{nat_eq, if◌then◌else◌}
 use Rattle.std.specs.List.{AllByRecursion}
 use Rattle.std.specs.Cmp.Lexicographic.{bytes_decides, pointwise}
@@ -43,7 +43,8 @@ use Rattle.law_recovery_run.proofs.Places.{IsAnswerTo}
 use Rattle.law_recovery.proofs.Asking.{at_place}
 use Rattle.law_recovery.proofs.Partner.{IsHalf, IsQuiet, Parties, partner_stands, rival}
 use Rattle.law_recovery.proofs.Rows.{IsCc, IsDr, IsPartingFor, left_takes}
-use Rattle.law_recovery_run.proofs.Keeping.{read_names, read_sourced}
+use Rattle.law_recovery_run.proofs.Keeping.{both_of, each_of, read_names, read_sourced, where_so as under}
+use Rattle.law_recovery_run.proofs.Doing.{each_all}
 
 -- ---- what is read
 
@@ -60,24 +61,6 @@ no_both (wires.Dr destination source reason info text) dr cc_is = cc_is
 no_both other dr cc_is = dr
 
 -- ---- lists
-
--- each is so, where one of them would be the reason that all are
-each_of : (P Q R : Sent → Type 0) (W : Type 0) (sents : List Sent) → ((sent : Sent) → P sent → Q sent → W) → (W → AllByRecursion R sents) → AllByRecursion P sents
-    → AllByRecursion (λ (sent : Sent). Q sent → R sent) sents
-each_of P Q R W [] why all ps = tt
-each_of P Q R W (sent ∷ sents) why all ps = (λ q. (all (why sent ps.0 q)).0, each_of P Q R W sents why (λ v. (all v).1) ps.1)
-
-pub both_of : (P Q : Sent → Type 0) (R : Sent → Type 0) (sents : List Sent) → ((sent : Sent) → P sent → Q sent → R sent) → AllByRecursion P sents → AllByRecursion Q sents → AllByRecursion R sents
-both_of P Q R [] f ps qs = tt
-both_of P Q R (sent ∷ sents) f ps qs = (f sent ps.0 qs.0, both_of P Q R sents f ps.1 qs.1)
-
-pub all_of : (P R : Sent → Type 0) (sents : List Sent) → ((sent : Sent) → P sent → R sent) → AllByRecursion P sents → AllByRecursion R sents
-all_of P R [] f ps = tt
-all_of P R (sent ∷ sents) f ps = (f sent ps.0, all_of P R sents f ps.1)
-
-under : (A : Type 0) (P : Sent → Type 0) (sents : List Sent) → (A → AllByRecursion P sents) → AllByRecursion (λ (sent : Sent). A → P sent) sents
-under A P [] all = tt
-under A P (sent ∷ sents) all = (λ a. (all a).0, under A P sents (λ a. (all a).1))
 
 -- ---- a CC comes to an entity
 
@@ -155,7 +138,7 @@ module _ {C : Type 0} (link : C → Link (List ℕ)) (names : List (List ℕ)) (
         -- it is not the partner, and takes nothing in the name of the end
         pub other_quiet : (system ≡ p.far_system → reference ≡ p.far_reference → ⊥) → (o.base.to ≡ p.here → NamedBy event p.reference → ⊥) → AllByRecursion (Apart system) m.tpdus
         other_quiet not_partner unnamed =
-            row_quiet (all_of (λ (sent : Sent). IsSentTo p.here p.reference sent → ⊥) (λ (sent : Sent). system ≡ p.far_system → IsSentTo p.here p.reference sent → IsDr sent.tpdu) m.tpdus
+            row_quiet (each_all (λ (sent : Sent). IsSentTo p.here p.reference sent → ⊥) (λ (sent : Sent). system ≡ p.far_system → IsSentTo p.here p.reference sent → IsDr sent.tpdu) m.tpdus
             (λ sent none at_it to_it. absurd (none to_it))
             (row_aims going now (times_of o.base.timers) (w.base.end known.k) o event sees stop fit sourced known.proper may p.here p.reference bad))
           where
@@ -215,7 +198,7 @@ module _ {C : Type 0} (link : C → Link (List ℕ)) (names : List (List ℕ)) (
             so (Taken reference o target stands acted) =
                 let same : reference ≡ p.far_reference = same_Some reference p.far_reference (sym target ∙ read.target ∙ is.0.target) in
                 subst (AllByRecursion (λ (sent : Sent). IsDr sent.tpdu)) (sym (ap (λ (z : Acted). z.tpdus) acted))
-                (all_of (IsPartingFor o.base t) (λ (sent : Sent). IsDr sent.tpdu) (stepped whole now o (Took t sum)).tpdus
+                (each_all (IsPartingFor o.base t) (λ (sent : Sent). IsDr sent.tpdu) (stepped whole now o (Took t sum)).tpdus
                 (λ sent parting. elim parting [ inl dr ↦ dr | inr back ↦ absurd (no_both t back.dr is_cc) ])
                 (left_takes now o.base o.stage t sum (far_left reference o (at_far is) same stands)))
 
@@ -250,7 +233,7 @@ module _ {C : Type 0} (link : C → Link (List ℕ)) (names : List (List ℕ)) (
       taking_quiet apart = elim (at_place a.system reference p.far_system p.far_reference) [
         | inl here ↦
             row_quiet a.system a.entity a.there reference o stands (Took t sum) goes_o (both_are (pointwise nat_eq o.base.to a.sender.own) (fits o.base o.stage t) match).1 sourced_o may_o apart
-            (all_of (IsPartingFor o.base t) (λ (sent : Sent). a.system ≡ p.far_system → IsSentTo p.here p.reference sent → IsDr sent.tpdu) (stepped whole now o (Took t sum)).tpdus
+            (each_all (IsPartingFor o.base t) (λ (sent : Sent). a.system ≡ p.far_system → IsSentTo p.here p.reference sent → IsDr sent.tpdu) (stepped whole now o (Took t sum)).tpdus
             (λ sent parting at_it to_it. elim parting [
               | inl dr ↦ dr
               | inr back ↦

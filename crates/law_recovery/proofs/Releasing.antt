@@ -1,6 +1,7 @@
 -- Of two ends that were Opened where nothing waited: neither is frozen before both have left, since no end but one that has left sends a DR or a DC.
 use Rattle.std.proofs.Common.{◌≡◌, ◌⊎◌, inl, inr, ℕ, ◌+◌, Bool, true, false, ◌&&◌, not, nat_le, nat_lt, ◌==◌, ◌||◌, List, [], ◌∷◌, ◌++◌, refl, sym, subst, arith}
 use Rattle.std.specs.List.{AllByRecursion}
+use Rattle.osi_base.proofs.Members.{all_both}
 use Rattle.tpdu.specs.declared.tpdu.Tpdu.{Tpdu}
 use Rattle.tpdu.specs.declared.tpdu.Tpdu.TheVariants.{Ak, Cc, Dc, Dr, Dt, Ea, Ed, Er}
 use Rattle.tp4_number.specs.Number.{whole}
@@ -29,7 +30,8 @@ use Rattle.tp4_conn.specs.declared.timers.Timers.{Timers}
 use Rattle.law_tp4_pair.specs.Pair.{Asks_called, Asks_calling, Clock, Comes_back, Comes_forth, Happening, IsIdle, Leads, May, Pair, comes_back, comes_forth, next as next_pair, tick_of}
 use Rattle.law_tp4_pair.specs.Standing.{HasLeft}
 use Rattle.law_tp4_pair.proofs.Leaving.{stays_left}
-use Rattle.tp4_world.proofs.Addressees.{all_append, either}
+use Rattle.law_tp4_pair.proofs.Pairs.{tick_left}
+use Rattle.tp4_world.proofs.Addressees.{either}
 use Rattle.law_recovery_steps.specs.Beginning.{AreAgreed}
 use Rattle.law_recovery_steps.specs.Known.{AreKnown}
 use Rattle.law_recovery_steps.specs.Going.{AreBothLeft, AreBothOpened, AreTicked, AreTimes, HaveTimers}
@@ -127,7 +129,7 @@ module _ (Why : Type 0) (b : EndRecord) (o : InOpened) where
   goes_row : (s : Sendings) → Sends Q sender_rules (say sender_rules) s → IsRow (opened_goes b o s)
   goes_row s h =
       either IsRow (nat_le (o.acked + b.timers.window) b.clock) _ _
-      (Stays tt (all_append Q s.tpdus _ h.tpdus (ak_said Q receiver_rules (say receiver_rules) o.halves.receiving refl, tt))) (Stays tt h.tpdus)
+      (Stays tt (all_both Q s.tpdus _ h.tpdus (ak_said Q receiver_rules (say receiver_rules) o.halves.receiving refl, tt))) (Stays tt h.tpdus)
 
   as_row : (life : Life) → IsRow (opened_as life b o)
   as_row Spent = Leaves tt tt (λ out. absurd out)
@@ -202,7 +204,7 @@ row_guards Why e d out into rest m g (Leaves left late was) why stays there = re
 row_guards Why e d out into rest m g (Stays is all) why stays there = record {
   late = open_late m.stage is;
   late_there = g.late_there;
-  sent = elim g.sent [ inl left ↦ inl (stays left) | inr before ↦ inr (all_append Q out m.tpdus before all) ];
+  sent = elim g.sent [ inl left ↦ inl (stays left) | inr before ↦ inr (all_both Q out m.tpdus before all) ];
   sent_there = there;
   frozen = λ frozen. absurd (open_in m.stage is frozen);
   frozen_there = λ frozen. stays (g.frozen_there frozen);
@@ -224,10 +226,6 @@ asks_guards now e d call out into g =
 tick_guards : (ticks : Bool) (now : ℕ) (e : End) (o : InOpened) → e.stage ≡ stages.Opened o → Row ⊥ (stages.Opened o) (tick_of ticks now e)
 tick_guards true now e o is = subst (λ (s : StateData). Row ⊥ (stages.Opened o) (stepped whole now (record { base = e.base; stage = s }) Ticked)) (sym is) (tick_row ⊥ (now_at now e.base) o)
 tick_guards false now e o is = subst (λ (s : StateData). Row ⊥ (stages.Opened o) (tick_of false now (record { base = e.base; stage = s }))) (sym is) (Stays tt tt)
-
-tick_left : (ticks : Bool) (now : ℕ) (e : End) → HasLeft e.stage → HasLeft (tick_of ticks now e).stage
-tick_left true now e left = stays_left now e Ticked left
-tick_left false now e left = left
 
 closing_late : (b : EndRecord) (c : InClosing) → IsLate (closing_tick b c).stage
 unfolding closing_tick

@@ -2,6 +2,7 @@
 use Rattle.std.proofs.Common.{◌≡◌, ◌⊎◌, inl, inr, ℕ, ◌+◌, ◌<◌, Bool, true, false, ◌&&◌, not, nat_le, nat_lt, ◌==◌, List, [], ◌∷◌, ◌++◌, Some, None, refl, arith}
 use Rattle.std.specs.List.{AllByRecursion}
 use Rattle.std.proofs.lemmas.Bool.{ltb-true}
+use Rattle.osi_base.proofs.Members.{all_both}
 use Rattle.tpdu.specs.Values.{destination_of}
 use Rattle.tpdu.specs.declared.service.Options.{Options}
 use Rattle.tpdu.specs.declared.tpdu.Tpdu.{Tpdu}
@@ -34,7 +35,7 @@ use Rattle.tp4_conn.specs.declared.states.InWaitBeforeClose.{InWaitBeforeClose}
 use Rattle.tp4_conn.specs.declared.states.StateData.{StateData}
 use Rattle.tp4_conn.specs.declared.states.StateData.TheVariants as stages
 use Rattle.law_tp4_pair.specs.Standing.{HasLeft}
-use Rattle.tp4_world.proofs.Addressees.{all_append, either}
+use Rattle.tp4_world.proofs.Addressees.{either}
 use Rattle.law_recovery_run.specs.Aside.{Names}
 use Rattle.law_recovery_run.specs.Following.{IsBy}
 use Rattle.law_recovery_run.proofs.Speaking.{HalvesSay, Sends, ak_said, submitted_sent, ticked_sent, urged_sent}
@@ -136,7 +137,7 @@ module _ (b : EndRecord) (o : InOpened) where
   goes_row : (s : Sendings) → Sends Q sender_rules (say sender_rules) s → Goes_on (opened_goes b o s)
   goes_row s h =
       either Goes_on (nat_le (o.acked + b.timers.window) b.clock) _ _
-      (inr (record { base = refl; now_in = _; stage = refl; took = refl; tpdus = all_append Q s.tpdus _ h.tpdus (ak_said Q receiver_rules (say receiver_rules) o.halves.receiving refl, tt) }))
+      (inr (record { base = refl; now_in = _; stage = refl; took = refl; tpdus = all_both Q s.tpdus _ h.tpdus (ak_said Q receiver_rules (say receiver_rules) o.halves.receiving refl, tt) }))
       (inr (record { base = refl; now_in = _; stage = refl; took = refl; tpdus = h.tpdus }))
 
   as_row : (life : Life) → Goes_on (opened_as life b o)

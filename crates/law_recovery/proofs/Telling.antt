@@ -11,6 +11,7 @@ use Rattle.osi_base.specs.declared.unit.Offered.{Offered}
 use Rattle.osi_base.specs.declared.unit.Offered.TheVariants.{Taken as WasTaken, Dropped}
 use Rattle.osi_base.specs.declared.unit.Up.{Up}
 use Rattle.osi_base.specs.declared.unit.Up.TheVariants.{Unit as Came, Note as Noted}
+use Rattle.osi_base.proofs.Members.{all_both}
 use Rattle.script_journal.specs.RawLawful.{clock_from, tick_after}
 use Rattle.script_journal.specs.declared.event.Event.{Event}
 use Rattle.script_journal.specs.declared.event.Event.TheVariants as events
@@ -30,7 +31,6 @@ use Rattle.tp4_world.specs.Telling.{call_events, drop_events, ends_with, event_f
 use Rattle.tp4_world.specs.World.{World, latest}
 use Rattle.tp4_world.specs.declared.place.EndAt.{EndAt}
 use Rattle.tp4_world.specs.declared.place.Placed.{Placed}
-use Rattle.tp4_world.proofs.Addressees.{all_append}
 use Rattle.law_calm_run.proofs.Queueing.{all_parts}
 use Rattle.law_recovery_run.specs.Service.{HappensAt}
 use Rattle.law_recovery_run.specs.Settling.{IsHandedOver}
@@ -137,7 +137,7 @@ told_no : (ups : List (Up (List ℕ))) → AllByRecursion IsNoTick (told ups)
 told_no [] = tt
 told_no (Noted note ∷ ups) = (tt, told_no ups)
 told_no (Came arrival ∷ ups) =
-    all_append IsNoTick (shown_at arrival.system arrival.unit) (told ups) (shown_no (selector_of arrival.unit.to == 2) arrival.system arrival.unit.from arrival.unit.octets) (told_no ups)
+    all_both IsNoTick (shown_at arrival.system arrival.unit) (told ups) (shown_no (selector_of arrival.unit.to == 2) arrival.system arrival.unit.from arrival.unit.octets) (told_no ups)
 
 what_no : (system : ℕ) (own : List ℕ) (number reference : ℕ) (what : What) → IsNoTick (event_for system own number reference what)
 what_no system own number reference (whats.Incoming from partner calling called options octets) = tt
@@ -155,7 +155,7 @@ drop_no system (Dropped cause) = (tt, tt)
 
 -- both parts are
 no_both : (made here rest : List Event) → made ≡ here ++ rest → AllByRecursion IsNoTick here → AllByRecursion IsNoTick rest → AllByRecursion IsNoTick made
-no_both made here rest is one two = subst (AllByRecursion IsNoTick) (sym is) (all_append IsNoTick here rest one two)
+no_both made here rest is one two = subst (AllByRecursion IsNoTick) (sym is) (all_both IsNoTick here rest one two)
 
 module _ {C : Type 0} (link : C → Link (List ℕ)) (steps : C → Call (List ℕ) → C → Type 0) where
   sends_no : (sents : List Sent) (old : C) (system : ℕ) (own : List ℕ) (made : List Event) (new : C) → SendsTpdus link steps old system own sents made new → AllByRecursion IsNoTick made
@@ -193,7 +193,7 @@ module _ {C : Type 0} (link : C → Link (List ℕ)) (steps : C → Call (List �
       lines = told step.ups ++ step.later
 
       none : AllByRecursion IsNoTick lines
-      none = all_append IsNoTick (told step.ups) step.later (told_no step.ups) (all_no old.entities (record old { carrier = step.below }) step.later new step.all)
+      none = all_both IsNoTick (told step.ups) step.later (told_no step.ups) (all_no old.entities (record old { carrier = step.below }) step.later new step.all)
 
       lines_are : lines ≡ before ++ event ∷ after
       lines_are =

@@ -6,6 +6,7 @@ use Rattle.std.proofs.lemmas.List.Elements.{Contains-append_left, Contains-appen
 use Rattle.std.proofs.lemmas.Option.{none-some, same_Some}
 use Rattle.std.specs.List.{AllByRecursion, Contains}
 use Rattle.osi_base.specs.Link.{Link}
+use Rattle.osi_base.proofs.Members.{all_both}
 use Rattle.script_journal.specs.declared.event.Event.{Event as JournalEvent}
 use Rattle.script_journal.specs.declared.event.Event.TheVariants as events
 use Rattle.tpdu.specs.declared.service.EndTold.TheVariants as tells
@@ -34,8 +35,8 @@ use Rattle.tp4_world.specs.Telling.{ends_after, events_after}
 use Rattle.tp4_world.specs.World.{World, entity_at, latest, with_entity}
 use Rattle.tp4_world.specs.declared.place.EndAt.{EndAt}
 use Rattle.tp4_world.specs.declared.place.Placed.{Placed}
-use Rattle.tp4_world.proofs.Addressees.{all_append}
 use Rattle.law_tp4_lawful.proofs.Worlds.{Explains}
+use Rattle.law_recovery_world.proofs.SeeSteps.{kept_at}
 use Rattle.law_calm_run.proofs.Hall.{Post, posted}
 use Rattle.law_recovery_run.proofs.Aiming.{Going}
 use Rattle.law_recovery_run.proofs.Aside.{both_are}
@@ -45,7 +46,6 @@ use Rattle.law_recovery_run.specs.Requesting.{AreListening, IsUnanswered, cr_fro
 use Rattle.law_recovery_run.proofs.RequestComes.{Asking, IsHere, IsPending, IsWaiting, here_same, waiting_same}
 use Rattle.law_recovery_run.proofs.Keeping.{IsKeptApart}
 use Rattle.law_recovery.proofs.Asking.{at_place}
-use Rattle.law_recovery.proofs.Outlasting.{kept_is}
 use Rattle.law_recovery.proofs.Accepting.{only_called, quiet_row}
 use Rattle.law_recovery.proofs.Elsewhere.{Changes, IsNow, accepted_on, bare_on, changed_there, listens_on, now_at as now_there, replied_on, selects_on, still_pending, unanswered_on}
 use Rattle.law_recovery.proofs.Replying.{Replies, ak_wait_due, tick_replies}
@@ -88,7 +88,7 @@ module _ {C : Type 0} (link : C → Link (List ℕ)) (titles : List (List ℕ)) 
   place = kept_end m (due m.base m.stage)
 
   place_is : (e : End) → place ≡ Some e → e ≡ end_of m
-  place_is e is = kept_is m (due m.base m.stage) e is
+  place_is e is = kept_at m (due m.base m.stage) e is
 
   abbrev a : Changes link old new
   a = changes link titles timers w journal old explains going new s entity there reference o stands Ticked place place_is entities ends clock
@@ -160,7 +160,7 @@ module _ {C : Type 0} (link : C → Link (List ℕ)) (titles : List (List ℕ)) 
                 unanswered = unanswered_on link old new a x system from N b r bare.unanswered (λ p at_p to called. absurd (not_called p at_p called));
                 listens = listens_on link old new a b.to bare.listens;
                 selects = selects_on link old new a N b.to b.called bare.selects;
-                apart = all_append (IsKeptApart system from N sent_base sent_stage) posts (posted s m.tpdus) (apart_as system from N b r now (again now r.tries) posts bare.apart) own_apart;
+                apart = all_both (IsKeptApart system from N sent_base sent_stage) posts (posted s m.tpdus) (apart_as system from N b r now (again now r.tries) posts bare.apart) own_apart;
               }) (Asking waits)
             where
               two : false ≡ true → ⊥
@@ -274,7 +274,7 @@ module _ {C : Type 0} (link : C → Link (List ℕ)) (titles : List (List ℕ)) 
             here = here_now b r k.here at_it same sent;
             listens = listens_on link old new a b.to k.listens;
             selects = selects_on link old new a N b.to b.called k.selects;
-            apart = all_append (IsKeptApart system from N (sent_base b r k.here) (sent_stage b r k.here)) posts (posted s m.tpdus) (apart_as system from N b r now (again now r.tries) posts k.apart)
+            apart = all_both (IsKeptApart system from N (sent_base b r k.here) (sent_stage b r k.here)) posts (posted s m.tpdus) (apart_as system from N b r now (again now r.tries) posts k.apart)
                 (own_apart b r k.here at_it same sent);
             at_system = k.at_system;
             own = k.own;
@@ -288,7 +288,7 @@ module _ {C : Type 0} (link : C → Link (List ℕ)) (titles : List (List ℕ)) 
             called = k.called;
             number = numbers_same link titles timers w journal old explains going new s entity there reference o stands Ticked place place_is entities ends clock k.at_system k.own ∙ k.number;
             past = k.past;
-            quiet = all_append (IsQuiet link x system from N b.to k.at_system k.own) posts (posted s m.tpdus) k.quiet
+            quiet = all_both (IsQuiet link x system from N b.to k.at_system k.own) posts (posted s m.tpdus) k.quiet
                 (subst (λ (l : List Sent). AllByRecursion (IsQuiet link x system from N b.to k.at_system k.own) (posted s l)) (sym (ap (λ (z : Moved). z.tpdus) sent))
                 (record { none = λ here to_it. none-some k.own to_it.target; unnamed = λ at_its names. two_places at_it same (sym at_its) (sym names ∙ sym same) }, tt));
           })

@@ -6,6 +6,7 @@ use Rattle.osi_base.specs.Link.{Link}
 use Rattle.script_journal.specs.Lawful.{Marked, shown, submitted}
 use Rattle.script_journal.specs.declared.event.Event.{Event as JournalEvent}
 use Rattle.script_journal.specs.declared.event.Event.TheVariants as events
+use Rattle.script_journal.proofs.Showing.{shown_both, submitted_both}
 use Rattle.tpdu.specs.declared.service.EndTold.TheVariants.{Gone}
 use Rattle.tpdu.specs.declared.service.GoneCause.{GoneCause}
 use Rattle.tp4_flow.specs.declared.step.EndEvent.{EndEvent}
@@ -23,7 +24,6 @@ use Rattle.tp4_conn.specs.declared.timers.Timers.{Timers}
 use Rattle.tp4_entity.specs.Entity.{Acted, Entity, at, end_at}
 use Rattle.tp4_entity.specs.Step.{is_due, kept_end, ticked_to}
 use Rattle.tp4_entity.proofs.Standings.{within}
-use Rattle.law_tp4_history.proofs.Appended.{shown-append, submitted-append}
 use Rattle.law_tp4_history.specs.Journals.{IsAside}
 use Rattle.law_tp4_history.specs.Tracks.{Whole}
 use Rattle.law_tp4_history.specs.Lines.{shown_in}
@@ -47,9 +47,10 @@ use Rattle.law_recovery_run.specs.Settling.{IsEnded}
 use Rattle.law_recovery_run.proofs.Leaving.{Leaves, nothing_leaves}
 use Rattle.law_recovery_run.proofs.Settling.{live_or}
 use Rattle.law_recovery_run.specs.Over.{HaveLeft, KeepsLeft}
-use Rattle.law_recovery.proofs.Outlasting.{Same, end_keeps, kept_is, left_end, left_on}
+use Rattle.law_recovery.proofs.Outlasting.{Same, end_keeps, left_end, left_on}
 use Rattle.law_recovery.proofs.Releasing.{frozen_left}
 use Rattle.law_recovery_steps.specs.Going.{AreBothLeft}
+use Rattle.law_recovery_world.proofs.SeeSteps.{kept_at}
 use Rattle.law_recovery.proofs.Asking.{at_place}
 use Rattle.law_recovery_run.proofs.Doing.{HasDone, at_two, beside, calling_did, calling_does, facing_called, facing_calling, lines_gave, lines_showed, live_goes, turn, turned}
 use Rattle.law_recovery.proofs.Rowing.{tick_leaves}
@@ -168,7 +169,7 @@ module _ {C : Type 0} (link : C → Link (List ℕ)) (titles : List (List ℕ)) 
   leaves_other x y f apart = tick_leaves link titles timers w journal old explains going x y f system entity there_it reference o stands apart place
 
   ticked_keeps : KeepsLeft old new
-  ticked_keeps = row_keeps link titles timers w journal old explains new system entity there_it reference o Ticked place stands (kept_is m (due m.base m.stage)) entities ends
+  ticked_keeps = row_keeps link titles timers w journal old explains new system entity there_it reference o Ticked place stands (kept_at m (due m.base m.stage)) entities ends
 
   abbrev posts_on : List Post → List Post
   posts_on posts = posts ++ posted system m.tpdus
@@ -399,7 +400,7 @@ module _ {C : Type 0} (link : C → Link (List ℕ)) where
     where
       gave : (n : ℕ) (units : List Marked) → units ≡ submitted n journal → units ≡ submitted n (journal ++ front)
       gave n units is =
-          is ∙ sym (append-nil (submitted n journal)) ∙ ap (λ (us : List Marked). submitted n journal ++ us) (sym (aside.units n).0) ∙ sym (submitted-append n journal front)
+          is ∙ sym (append-nil (submitted n journal)) ∙ ap (λ (us : List Marked). submitted n journal ++ us) (sym (aside.units n).0) ∙ sym (submitted_both n journal front)
 
       showed : (n : ℕ) (units : List Marked) → units ≡ shown n journal → units ≡ shown n (journal ++ front)
-      showed n units is = is ∙ sym (append-nil (shown n journal)) ∙ ap (λ (us : List Marked). shown n journal ++ us) (sym (aside.units n).1) ∙ sym (shown-append n journal front)
+      showed n units is = is ∙ sym (append-nil (shown n journal)) ∙ ap (λ (us : List Marked). shown n journal ++ us) (sym (aside.units n).1) ∙ sym (shown_both n journal front)

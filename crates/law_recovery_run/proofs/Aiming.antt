@@ -68,7 +68,7 @@ named_dr (wires.Cr credit source width calling called size preferred extra versi
 named_dr (wires.Dr destination source reason info text) r kind is = is
 named_dr other r kind is = absurd (cc kind)
 
-cause_took : (b : Bool) (one other : Tpdu) → (if b then Alone else TookIn one) ≡ TookIn other → one ≡ other
+pub cause_took : (b : Bool) (one other : Tpdu) → (if b then Alone else TookIn one) ≡ TookIn other → one ≡ other
 cause_took true one other is = absurd (cc is)
 cause_took false one other is = cc is
 

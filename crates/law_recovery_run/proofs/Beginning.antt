@@ -18,6 +18,7 @@ use Rattle.law_tp4_history.proofs.Sound.{one_partner, partner_address}
 use Rattle.law_tp4_history.proofs.Written.{Kept}
 use Rattle.law_tp4_history.specs.Moves.{IsOpened, IsSeenIn, times_of}
 use Rattle.law_tp4_history.specs.Seen.{terms_of}
+use Rattle.law_tp4_history.proofs.FlowRows.{same_format}
 use Rattle.law_tp4_pair.specs.Pair.{Pair}
 use Rattle.tp4_world.specs.World.{World}
 use Rattle.law_tp4_lawful.specs.References.{halves_at}
@@ -25,7 +26,6 @@ use Rattle.law_tp4_lawful.proofs.Known.{IsKnown}
 use Rattle.law_tp4_lawful.proofs.Worlds.{Explains}
 use Rattle.law_tp4_lawful.proofs.FramesKnown.{keeps}
 use Rattle.law_tp4_lawful.proofs.ReferencesHalves.{AreThere, are_there, known_at}
-use Rattle.law_tp4_lawful.proofs.ReferencesMet.{same_format}
 use Rattle.law_tp4_lawful.proofs.ReferencesOwn.{are_partners}
 use Rattle.law_tp4_lawful.proofs.WorldOutcomes.{one_unit}
 use Rattle.law_recovery_run.proofs.Rivals.{no_rival}

@@ -7,6 +7,7 @@ use Rattle.osi_base.specs.declared.unit.Picked.TheVariants.{Taken as WasPicked}
 use Rattle.osi_base.specs.declared.unit.Unit.{Unit as CarriedUnit}
 use Rattle.script_journal.specs.Lawful.{Marked, shown, submitted}
 use Rattle.script_journal.specs.declared.event.Event.{Event}
+use Rattle.script_journal.proofs.Showing.{shown_both, submitted_both}
 use Rattle.net_world.specs.Fifo.{IsFifo}
 use Rattle.tpdu.specs.Values.{TpduAndSum}
 use Rattle.tpdu.specs.Writing.{IsWritten}
@@ -18,7 +19,6 @@ use Rattle.tp4_entity.specs.Association.{met}
 use Rattle.tp4_entity.specs.Entity.{Acted, Entity, at}
 use Rattle.tp4_entity.specs.Silence.{is_silent}
 use Rattle.tp4_entity.specs.Unit.{HearsUnit, TakesBy, TakesUnit, all_met, extended_of}
-use Rattle.law_tp4_history.proofs.Appended.{shown-append, submitted-append}
 use Rattle.law_tp4_history.specs.Journals.{IsAside}
 use Rattle.law_tp4_pair.specs.Claim.{IsUndropped}
 use Rattle.tp4_world.specs.Run.{Delivers, transport_address}
@@ -151,11 +151,11 @@ module _ {C : Type 0} (link : C → Link (List ℕ)) (steps : C → Call (List �
           ends = h.ends;
           clock = h.stands.shows.clock ∙ sym s.shows.clock;
           gave = λ n.
-              ap (submitted n) h.made_is ∙ submitted-append n h.front h.later ∙ (λ i. front.gave n i ++ submitted n h.later)
-              ∙ ap (submitted n) h.does.made_is ∙ submitted-append n told h.does.aside ∙ (λ i. lines_give_none h.system h.entity.own n hall.ends h.acted.events i ++ submitted n h.does.aside) ∙ tail.gave n;
+              ap (submitted n) h.made_is ∙ submitted_both n h.front h.later ∙ (λ i. front.gave n i ++ submitted n h.later)
+              ∙ ap (submitted n) h.does.made_is ∙ submitted_both n told h.does.aside ∙ (λ i. lines_give_none h.system h.entity.own n hall.ends h.acted.events i ++ submitted n h.does.aside) ∙ tail.gave n;
           showed = λ n.
-              ap (shown n) h.made_is ∙ shown-append n h.front h.later ∙ (λ i. front.showed n i ++ shown n h.later)
-              ∙ ap (shown n) h.does.made_is ∙ shown-append n told h.does.aside ∙ ap (λ (us : List Marked). shown n told ++ us) (tail.showed n) ∙ append-nil (shown n told) ∙ ap (shown n) told_old;
+              ap (shown n) h.made_is ∙ shown_both n h.front h.later ∙ (λ i. front.showed n i ++ shown n h.later)
+              ∙ ap (shown n) h.does.made_is ∙ shown_both n told h.does.aside ∙ ap (λ (us : List Marked). shown n told ++ us) (tail.showed n) ∙ append-nil (shown n told) ∙ ap (shown n) told_old;
         };
         queue = h.queue;
         stands = h.stands;

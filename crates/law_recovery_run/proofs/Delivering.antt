@@ -5,6 +5,7 @@ use Rattle.std.specs.List.{AllByRecursion}
 use Rattle.std.proofs.lemmas.Bool.{eq-eqb, eqb-true}
 use Rattle.std.proofs.lemmas.Option.{same_Some}
 use Rattle.osi_base.specs.Link.{Link}
+use Rattle.osi_base.proofs.Members.{all_both}
 use Rattle.script_journal.specs.Lawful.{Marked, shown, submitted}
 use Rattle.script_journal.specs.declared.event.Event.{Event as JournalEvent}
 use Rattle.tpdu.specs.Kinds.{has_number}
@@ -51,7 +52,6 @@ use Rattle.law_recovery_run.proofs.Leaving.{Leaves, met_leaves, nothing_leaves}
 use Rattle.law_recovery_run.proofs.Sides.{IsFirst, IsNow, drop_other, drop_this}
 use Rattle.law_recovery_run.proofs.Taking.{met_takes, own_is, sum_same}
 use Rattle.law_recovery_run.proofs.Waiting.{both_parts, posted_each, sent_there, there_sent}
-use Rattle.tp4_world.proofs.Addressees.{all_append}
 
 is_source_by : (b : EndRecord) (own : ℕ) (t : WireTpdu) → own ≡ b.partner → IsBy own t → is_source b t ≡ true
 is_source_by b own (wires.Cc credit destination source width calling called size preferred extra version classes ack_time text) is by = eq-eqb source b.partner (by ∙ is)
@@ -290,7 +290,7 @@ module _ {C : Type 0} (link : C → Link (List ℕ)) (titles : List (List ℕ)) 
     leaves_called none = leaves_it y x p.called p.calling f.called f.calling live_there live swapped p.back p.called_gave p.called_showed f.back (λ from sent. none (from, sent)) f.forth.named.0
 
     all_sourced : AllByRecursion (λ (sent : Sent). HasSource (seen 0 sent.tpdu)) a.acted.tpdus → AllByRecursion HasCcSource posts_now
-    all_sourced all = all_append HasCcSource rest (posted a.system a.acted.tpdus) f.sourced.1 (posted_each HasCcSource a.system a.acted.tpdus all)
+    all_sourced all = all_both HasCcSource rest (posted a.system a.acted.tpdus) f.sourced.1 (posted_each HasCcSource a.system a.acted.tpdus all)
 
     one_only : ForCalling → ForCalled → ⊥
     one_only one other =

@@ -4,8 +4,10 @@ use Rattle.std.specs.List.{AllByRecursion}
 use Rattle.std.proofs.lemmas.Bool.{eqb-false, eqb-true}
 use Rattle.std.proofs.lemmas.Option.{same_Some}
 use Rattle.osi_base.specs.Link.{Link}
+use Rattle.osi_base.proofs.Members.{all_both}
 use Rattle.script_journal.specs.Lawful.{Marked, shown, submitted}
 use Rattle.script_journal.specs.declared.event.Event.{Event as JournalEvent}
+use Rattle.script_journal.proofs.Showing.{shown_both, submitted_both}
 use Rattle.tp4_number.specs.Number.{whole}
 use Rattle.tp4_flow.specs.declared.step.EndEvent.{EndEvent}
 use Rattle.tp4_flow.specs.declared.step.Sent.{Sent}
@@ -15,7 +17,6 @@ use Rattle.tp4_conn.specs.declared.states.StateData.{StateData}
 use Rattle.tp4_conn.specs.declared.states.StateData.TheVariants as stages
 use Rattle.tp4_conn.specs.declared.timers.Timers.{Timers}
 use Rattle.tp4_entity.specs.Entity.{Acted, Entity, end_at}
-use Rattle.law_tp4_history.proofs.Appended.{shown-append, submitted-append}
 use Rattle.law_tp4_history.specs.Journals.{IsAside}
 use Rattle.law_tp4_history.specs.Tracks.{Whole}
 use Rattle.law_tp4_history.specs.Lines.{shown_in}
@@ -25,7 +26,6 @@ use Rattle.law_tp4_pair.specs.Pair.{Pair}
 use Rattle.tp4_world.specs.Telling.{ends_after, events_after}
 use Rattle.tp4_world.specs.World.{World, entity_at, latest, with_entity}
 use Rattle.tp4_world.specs.declared.place.EndAt.{EndAt}
-use Rattle.tp4_world.proofs.Addressees.{all_append}
 use Rattle.law_tp4_lawful.proofs.Acting.{first_of}
 use Rattle.law_tp4_lawful.proofs.ActsTold.{first_shows_none, lines_give_none}
 use Rattle.law_tp4_lawful.proofs.Worlds.{Explains}
@@ -103,14 +103,14 @@ module _ (ends : List EndAt) (system : ℕ) (own : List ℕ) (number : ℕ) (eve
 
   pub lines_gave : (n : ℕ) → submitted n made ≡ submitted n (first_of number event)
   lines_gave n =
-      ap (submitted n) made_is ∙ submitted-append n (first_of number event) (lines ++ aside)
-      ∙ ap (λ (us : List Marked). submitted n (first_of number event) ++ us) (submitted-append n lines aside ∙ (λ i. lines_give_none system own n ends told i ++ (is_aside.units n).0 i))
+      ap (submitted n) made_is ∙ submitted_both n (first_of number event) (lines ++ aside)
+      ∙ ap (λ (us : List Marked). submitted n (first_of number event) ++ us) (submitted_both n lines aside ∙ (λ i. lines_give_none system own n ends told i ++ (is_aside.units n).0 i))
       ∙ append-nil (submitted n (first_of number event))
 
   pub lines_showed : (n : ℕ) → shown n made ≡ shown n (events_after ends system own told)
   lines_showed n =
-      ap (shown n) made_is ∙ shown-append n (first_of number event) (lines ++ aside) ∙ (λ i. first_shows_none n number event i ++ shown n (lines ++ aside))
-      ∙ shown-append n lines aside ∙ ap (λ (us : List Marked). shown n lines ++ us) (is_aside.units n).1 ∙ append-nil (shown n lines)
+      ap (shown n) made_is ∙ shown_both n (first_of number event) (lines ++ aside) ∙ (λ i. first_shows_none n number event i ++ shown n (lines ++ aside))
+      ∙ shown_both n lines aside ∙ ap (λ (us : List Marked). shown n lines ++ us) (is_aside.units n).1 ∙ append-nil (shown n lines)
 
 -- ---- an entity did this, and these are its lines
 
@@ -132,13 +132,13 @@ at_two {C} last x y system reference e o a b apart s r t q = apart (sym a.is_end
 
 module _ {C : Type 0} (link : C → Link (List ℕ)) (journal : List JournalEvent) (old new : World C) (made : List JournalEvent) (a : HasDone link old new made) where
   gave_on : (n : ℕ) (units more : List Marked) → units ≡ submitted n journal → submitted n made ≡ more → units ++ more ≡ submitted n (journal ++ made)
-  gave_on n units more is given = (λ i. is i ++ more) ∙ ap (λ (us : List Marked). submitted n journal ++ us) (sym given) ∙ sym (submitted-append n journal made)
+  gave_on n units more is given = (λ i. is i ++ more) ∙ ap (λ (us : List Marked). submitted n journal ++ us) (sym given) ∙ sym (submitted_both n journal made)
 
   pub gave_same : (n : ℕ) (units : List Marked) → units ≡ submitted n journal → submitted n made ≡ [] → units ≡ submitted n (journal ++ made)
   gave_same n units is none = sym (append-nil units) ∙ gave_on n units [] is none
 
   showed_on : (n : ℕ) (units more : List Marked) → units ≡ shown n journal → shown n (events_after old.ends a.system a.entity.own a.acted.events) ≡ more → units ++ more ≡ shown n (journal ++ made)
-  showed_on n units more is told = (λ i. is i ++ more) ∙ ap (λ (us : List Marked). shown n journal ++ us) (sym (a.showed n ∙ told)) ∙ sym (shown-append n journal made)
+  showed_on n units more is told = (λ i. is i ++ more) ∙ ap (λ (us : List Marked). shown n journal ++ us) (sym (a.showed n ∙ told)) ∙ sym (shown_both n journal made)
 
   showed_same : (n : ℕ) (units : List Marked) → units ≡ shown n journal → shown n (events_after old.ends a.system a.entity.own a.acted.events) ≡ [] → units ≡ shown n (journal ++ made)
   showed_same n units is told = sym (append-nil units) ∙ showed_on n units [] is told
@@ -237,7 +237,7 @@ module _ {C : Type 0} (link : C → Link (List ℕ)) (journal : List JournalEven
     facing_called = facing y x p.called p.calling f.called f.calling live_there live f.back.to_is f.back.partner_is
 
     sourced_on : AllByRecursion (λ (sent : Sent). HasSource (seen 0 sent.tpdu)) a.acted.tpdus → AllByRecursion HasCcSource posts_now
-    sourced_on all = all_append HasCcSource posts (posted a.system a.acted.tpdus) f.sourced (posted_each HasCcSource a.system a.acted.tpdus all)
+    sourced_on all = all_both HasCcSource posts (posted a.system a.acted.tpdus) f.sourced (posted_each HasCcSource a.system a.acted.tpdus all)
 
     -- neither sees anything of it
     pub beside : Leaves old x y facing_calling a.system a.entity a.acted → Leaves old y x facing_called a.system a.entity a.acted → submitted x made ≡ [] → submitted y made ≡ []

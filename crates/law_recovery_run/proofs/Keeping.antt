@@ -6,6 +6,7 @@ use Rattle.std.specs.Cmp.Lexicographic.{bytes_decides, pointwise}
 use Rattle.std.proofs.lemmas.Bool.{eq-eqb, eqb-false, eqb-true}
 use Rattle.std.proofs.lemmas.Option.{none-some, same_Some}
 use Rattle.osi_base.specs.Link.{Link}
+use Rattle.osi_base.proofs.Members.{all_both}
 use Rattle.script_journal.specs.declared.event.Event.{Event as JournalEvent}
 use Rattle.tpdu.specs.Kinds.{has_number}
 use Rattle.tpdu.specs.Values.{destination_of, format_for}
@@ -35,7 +36,6 @@ use Rattle.law_tp4_history.proofs.Sound.{partner_address}
 use Rattle.law_tp4_history.specs.Moves.{HasSource, IsSourced, Sees, stop_of, times_of}
 use Rattle.law_tp4_history.specs.Seen.{seen}
 use Rattle.tp4_world.specs.World.{World, entity_at, latest}
-use Rattle.tp4_world.proofs.Addressees.{all_append}
 use Rattle.law_tp4_lawful.proofs.Known.{IsKnown, IsReadAs, IsThere}
 use Rattle.law_tp4_lawful.proofs.Worlds.{Explains}
 use Rattle.law_calm_run.proofs.Hall.{Post, posted}
@@ -299,7 +299,7 @@ module _ {C : Type 0} (link : C → Link (List ℕ)) (titles : List (List ℕ)) 
   sent_apart (Makes reference base octets free own is) = subst (AllByRecursion Apart) (sym (ap (λ (z : Acted). z.tpdus) is)) tt
 
   pub apart_on : AllByRecursion (IsKeptApart system from N b r) (rest ++ posted a.system a.acted.tpdus)
-  apart_on = all_append (IsKeptApart system from N b r) rest (posted a.system a.acted.tpdus) quiet.1
+  apart_on = all_both (IsKeptApart system from N b r) rest (posted a.system a.acted.tpdus) quiet.1
       (posted_each (IsKeptApart system from N b r) a.system a.acted.tpdus (sent_apart (met_so link titles timers w journal old explains new post rest made a)))
 
 -- one delivery, where it was so before

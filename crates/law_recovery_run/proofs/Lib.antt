@@ -13,7 +13,7 @@ pub mod Lasting
 pub mod Leaving
 pub mod Meeting
 pub mod Naming
-mod Numbers
+pub mod Numbers
 pub mod Ordered
 pub mod Places
 pub mod Readiness

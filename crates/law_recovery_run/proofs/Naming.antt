@@ -1,6 +1,6 @@
 -- What an end sends by any row, as a move of the end of a history: to the partner that it knows, or to the end that a TPDU names that it took; and in no other name than its own.
-use Rattle.std.proofs.Common.{◌≡◌, ◌≢◌, ◌⊎◌, inl, inr, ℕ, ◌<◌, Bool, true, false, List, [], ◌∷◌, None, refl, sym, ◌∙◌, ap, arith, Contains}
-use Rattle.std.specs.Prelude.{◌&&◌, not, if◌then◌else◌}
+use Rattle.std.proofs.Common.{◌≡◌, ◌≢◌, ◌⊎◌, inl, inr, ℕ, ◌<◌, List, [], ◌∷◌, None, refl, sym, ◌∙◌, ap, arith, Contains}
+use Rattle.std.specs.Prelude.{◌&&◌, not}
 use Rattle.std.specs.List.{AllByRecursion}
 use Rattle.std.proofs.lemmas.List.Elements.{Contains-append_left, Contains-append_right, Contains-push}
 use Rattle.tpdu.specs.declared.tpdu.Tpdu.{Tpdu as WireTpdu}
@@ -13,21 +13,17 @@ use Rattle.tp4_conn.specs.Matching.{wants_sum}
 use Rattle.tp4_conn.specs.Proper.{IsProper, IsProperEvent}
 use Rattle.tp4_conn.specs.Table.{Event, Took, stepped}
 use Rattle.tp4_conn.proofs.Propers.{step_row}
-use Rattle.law_tp4_history.specs.Ends.{Alone, Back, Cause, Cc, Cr, Dr, End as HistoryEnd, Goes, IsMove, IsOffered, Offer, Times, To_known, Took as TookIn, Tpdu}
+use Rattle.law_tp4_history.specs.Ends.{Back, Cause, Cc, Cr, Dr, End as HistoryEnd, Goes, IsMove, IsOffered, Offer, Times, To_known, Took as TookIn, Tpdu}
 use Rattle.law_tp4_history.specs.Moves.{HasSource, IsSourced, Moves, Sees, cause_of}
 use Rattle.law_tp4_history.specs.Seen.{AreOffersOf, IsOfferOf, seen}
 use Rattle.law_tp4_lawful.proofs.ReferencesMet.{no_request, target_of}
 use Rattle.law_recovery_run.specs.Aside.{IsSentTo, Names}
-use Rattle.law_recovery_run.proofs.Aiming.{Going, named_cc, named_dr, offers_of}
+use Rattle.law_recovery_run.proofs.Aiming.{Going, cause_took, named_cc, named_dr, offers_of}
 
 -- the TPDU that is taken names an end of that reference
 abbrev pub NamedBy : Event → ℕ → Type 0
 NamedBy (Took t sum) r = Names r t
 NamedBy event r = ⊥
-
-cause_took : (b : Bool) (one other : Tpdu) → (if b then Alone else TookIn one) ≡ TookIn other → one ≡ other
-cause_took true one other is = absurd (cc is)
-cause_took false one other is = cc is
 
 named_by : (e : End) (event : Event) (tpdu : Tpdu) (r : ℕ) → cause_of e 0 event ≡ TookIn tpdu → ((t : WireTpdu) → seen 0 t ≡ tpdu → Names r t) → NamedBy event r
 named_by e (Took t sum) tpdu r is f = f t (cause_took (wants_sum e.base e.stage t && not sum) (seen 0 t) tpdu is)

@@ -39,11 +39,12 @@ use Rattle.tp4_world.specs.World.{World, entity_at, latest}
 use Rattle.tp4_world.specs.declared.place.EndAt.{EndAt}
 use Rattle.tp4_world.specs.declared.place.Placed.{Placed}
 use Rattle.tp4_world.proofs.Having.{with_any}
+use Rattle.tp4_world.proofs.Entities.{with_found}
 use Rattle.law_tp4_lawful.proofs.Acts.{stage_of}
 use Rattle.law_tp4_lawful.proofs.ActsRows.{AreTold, row_of}
 use Rattle.law_tp4_lawful.proofs.ActsTold.{ends_stay}
 use Rattle.law_tp4_lawful.proofs.Known.{IsKnown, IsReadAs, IsThere}
-use Rattle.law_tp4_lawful.proofs.Frames.{entity_other, entity_set}
+use Rattle.law_tp4_lawful.proofs.Frames.{entity_other}
 use Rattle.law_tp4_lawful.proofs.MakesPlaces.{at_same}
 use Rattle.law_tp4_lawful.proofs.Worlds.{Explains}
 use Rattle.law_tp4_associations.proofs.Entities.{did_take}
@@ -188,7 +189,7 @@ module _ {C : Type 0} (link : C → Link (List ℕ)) (titles : List (List ℕ)) 
   -- ---- the systems
 
   new_there : entity_at new.entities a.system ≡ Some a.acted.entity
-  new_there = ap (λ (ps : List Placed). entity_at ps a.system) a.entities ∙ entity_set old.entities a.system a.entity a.acted.entity a.there
+  new_there = ap (λ (ps : List Placed). entity_at ps a.system) a.entities ∙ with_found old.entities a.system a.entity a.acted.entity a.there
 
   -- the entity of a system acted, or is as it was
   abbrev pub IsPlaced : ℕ → Entity → Type 0

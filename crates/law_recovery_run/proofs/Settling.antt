@@ -5,9 +5,11 @@ use Rattle.osi_base.specs.Calls.{Call, Keeps}
 use Rattle.osi_base.specs.Link.{IsLeastFresh, Link}
 use Rattle.osi_base.specs.declared.unit.Picked.TheVariants.{Taken as WasPicked}
 use Rattle.osi_base.specs.declared.unit.Unit.{Unit as CarriedUnit}
+use Rattle.osi_base.proofs.Members.{all_both}
 use Rattle.net_world.specs.Fifo.{IsFifo}
 use Rattle.script_journal.specs.Lawful.{Marked, shown, submitted}
 use Rattle.script_journal.specs.declared.event.Event.{Event}
+use Rattle.script_journal.proofs.Showing.{shown_both, submitted_both}
 use Rattle.tp4_number.specs.Number.{whole}
 use Rattle.tp4_flow.specs.declared.step.Sent.{Sent}
 use Rattle.tp4_conn.specs.End.{End, IsTimed}
@@ -15,12 +17,10 @@ use Rattle.tp4_conn.specs.declared.states.StateData.{StateData}
 use Rattle.tp4_conn.specs.declared.states.StateData.TheVariants as stages
 use Rattle.tp4_conn.specs.declared.timers.Timers.{Timers}
 use Rattle.tp4_entity.specs.Step.{first_due}
-use Rattle.law_tp4_history.proofs.Appended.{shown-append, submitted-append}
 use Rattle.law_tp4_history.specs.Tracks.{Whole}
 use Rattle.law_tp4_pair.specs.Claim.{IsUndropped}
 use Rattle.law_tp4_pair.specs.Pair.{Happening, IsIdle, Leads, Pair, next as next_pair}
 use Rattle.law_tp4_proper.specs.Rest.{AreInTime, AreProper}
-use Rattle.tp4_world.proofs.Addressees.{all_append}
 use Rattle.tp4_world.specs.Run.{Delivers, NoneLeft, OneMore, Settles, TooMany}
 use Rattle.tp4_world.specs.World.{World, entity_at, latest}
 use Rattle.tp4_world.specs.declared.place.EndAt.{EndAt}
@@ -57,10 +57,10 @@ live_or other = inr (λ live. live)
 -- ---- where no entity acts
 
 gave_still : (n : ℕ) (journal made : List Event) (units : List Marked) → TellsNoUnits made → units ≡ submitted n journal → units ≡ submitted n (journal ++ made)
-gave_still n journal made units none is = is ∙ sym (append-nil (submitted n journal)) ∙ ap (λ (us : List Marked). submitted n journal ++ us) (sym (none.gave n)) ∙ sym (submitted-append n journal made)
+gave_still n journal made units none is = is ∙ sym (append-nil (submitted n journal)) ∙ ap (λ (us : List Marked). submitted n journal ++ us) (sym (none.gave n)) ∙ sym (submitted_both n journal made)
 
 showed_still : (n : ℕ) (journal made : List Event) (units : List Marked) → TellsNoUnits made → units ≡ shown n journal → units ≡ shown n (journal ++ made)
-showed_still n journal made units none is = is ∙ sym (append-nil (shown n journal)) ∙ ap (λ (us : List Marked). shown n journal ++ us) (sym (none.showed n)) ∙ sym (shown-append n journal made)
+showed_still n journal made units none is = is ∙ sym (append-nil (shown n journal)) ∙ ap (λ (us : List Marked). shown n journal ++ us) (sym (none.showed n)) ∙ sym (shown_both n journal made)
 
 -- an end stands as it stood
 abbrev pub stands_still : {C : Type 0} (old new : World C) → new.entities ≡ old.entities → new.ends ≡ old.ends → (x : ℕ) (e : End) → Stands old x e → Stands new x e
@@ -230,7 +230,7 @@ module _ {C : Type 0} (link : C → Link (List ℕ)) (steps : C → Call (List �
         happenings = first.happenings ++ later.happenings;
         next = later.next;
         leads = leads_then p first.next later.next first.happenings later.happenings first.leads later.leads;
-        handed = all_append IsHandedOver first.happenings later.happenings first.handed later.handed;
+        handed = all_both IsHandedOver first.happenings later.happenings first.handed later.handed;
         clock = later.clock ∙ first.clock;
         goes = later.goes;
       }) in

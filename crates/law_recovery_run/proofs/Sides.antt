@@ -3,6 +3,7 @@ use Rattle.std.proofs.Common.{◌≡◌, ℕ, ◌==◌, Bool, true, false, List,
 use Rattle.std.specs.List.{AllByRecursion}
 use Rattle.std.proofs.lemmas.Bool.{eqb-false, eqb-true}
 use Rattle.std.proofs.lemmas.Option.{same_Some}
+use Rattle.osi_base.proofs.Members.{all_both}
 use Rattle.script_journal.specs.Lawful.{Marked, shown, submitted}
 use Rattle.script_journal.specs.declared.event.Event.{Event as JournalEvent}
 use Rattle.tp4_flow.specs.declared.step.Sent.{Sent}
@@ -10,7 +11,6 @@ use Rattle.tp4_conn.specs.End.{End, agreed_format}
 use Rattle.tp4_conn.specs.declared.end_record.EndRecord.{EndRecord}
 use Rattle.tpdu.specs.declared.service.Options.{Options}
 use Rattle.tp4_entity.specs.Entity.{Acted, Entity, end_at}
-use Rattle.tp4_world.proofs.Addressees.{all_append}
 use Rattle.tp4_world.proofs.Having.{with_first, with_other}
 use Rattle.tp4_world.specs.World.{World, entity_at, latest, with_entity}
 use Rattle.tp4_world.specs.declared.place.Placed.{Placed}
@@ -140,10 +140,10 @@ side_on {C} journal after old new rest system tpdus x y mine theirs mine_now the
   waits_are = (λ i. s.waits_are i ++ more) ∙ ap (λ (l : List Sent). sent_to here.system there.entity.own there.reference rest ++ l) (sym more_is)
       ∙ sym (waits_append here.system there.entity.own there.reference rest (posted system tpdus))
       ∙ (λ i. sent_to (sym h.system_is i) (sym t.own_is i) (sym t.reference_is i) (rest ++ posted system tpdus));
-  spoken = each_spoken mine.base mine_now.base (waits ++ more) keeps (all_append (IsSpoken mine.base) waits more s.spoken spoken);
+  spoken = each_spoken mine.base mine_now.base (waits ++ more) keeps (all_both (IsSpoken mine.base) waits more s.spoken spoken);
   named = named_as here.system h.stands.system here.reference h.stands.reference there.reference t.stands.reference there.entity.own t.stands.entity.own (rest ++ posted system tpdus) h.system_is h.reference_is t.own_is
       t.reference_is
-      (all_append (IsForPartner here.system here.reference there.entity.own there.reference) rest (posted system tpdus) s.named named);
+      (all_both (IsForPartner here.system here.reference there.entity.own there.reference) rest (posted system tpdus) s.named named);
   gave_is = gave_is;
   showed_is = showed_is;
 }

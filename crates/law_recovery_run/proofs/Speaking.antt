@@ -3,6 +3,7 @@ use Rattle.std.proofs.Common.{◌≡◌, ℕ, zero, suc, ◌+◌, ◌-◌, true,
 use Rattle.std.specs.Prelude.{is_some}
 use Rattle.std.specs.List.{AllByRecursion}
 use Rattle.std.proofs.lemmas.Bool.{eqb-true}
+use Rattle.osi_base.proofs.Members.{all_both}
 use Rattle.tpdu.specs.Values.{destination_of}
 use Rattle.tpdu.specs.declared.service.Options.{Options}
 use Rattle.tpdu.specs.declared.service.GoneCause.TheVariants.{Reason, Protocol, Inactive, Exhausted}
@@ -34,7 +35,7 @@ use Rattle.tp4_conn.specs.declared.states.InClosing.{InClosing}
 use Rattle.tp4_conn.specs.declared.states.InOpened.{InOpened}
 use Rattle.tp4_conn.specs.declared.states.StateData.{StateData}
 use Rattle.tp4_conn.specs.declared.states.StateData.TheVariants as stages
-use Rattle.tp4_world.proofs.Addressees.{all_append, either}
+use Rattle.tp4_world.proofs.Addressees.{either}
 use Rattle.law_recovery_run.specs.Following.{HasOwn, IsBy, IsFromPartner, IsLive, IsSpoken, KeepsParty, Speaks}
 
 -- ---- the sending half
@@ -64,7 +65,7 @@ module _ (Q : Sent → Type 0) (rules : FlowRules) (say : HalvesSay Q rules) whe
 
   all_said : (s : FlowSender) (ns : List ℕ) → s.rules ≡ rules → AllByRecursion Q (all_dts s ns)
   all_said s [] is = tt
-  all_said s (n ∷ ns) is = all_append Q (dts_of s n) (all_dts s ns) (dt_said s n is) (all_said s ns is)
+  all_said s (n ∷ ns) is = all_both Q (dts_of s n) (all_dts s ns) (dt_said s n is) (all_said s ns is)
 
   eds_said : (s : FlowSender) (n : ℕ) (units : List (List ℕ)) → s.rules ≡ rules → AllByRecursion Q (eds s n units)
   eds_said s n [] is = tt
@@ -73,7 +74,7 @@ module _ (Q : Sent → Type 0) (rules : FlowRules) (say : HalvesSay Q rules) whe
   then_sent : (x : Sendings) (next : FlowSender → Sendings) → Sends x → ((s : FlowSender) → s.rules ≡ rules → Sends (next s)) → Sends (then_sends x next)
   then_sent x next h more =
       let y = more x.sender h.rules_are in
-      record { rules_are = y.rules_are; tpdus = all_append Q x.tpdus (next x.sender).tpdus h.tpdus y.tpdus }
+      record { rules_are = y.rules_are; tpdus = all_both Q x.tpdus (next x.sender).tpdus h.tpdus y.tpdus }
 
   urgent_sent : (s : FlowSender) → s.rules ≡ rules → Sends (one_urgent s)
   urgent_sent s is =
@@ -87,7 +88,7 @@ module _ (Q : Sent → Type 0) (rules : FlowRules) (say : HalvesSay Q rules) whe
       let more = normals_sent fuel (sent_normal s) is in
       either Sends (not (has_next s)) _ _ (nothing_sent s is)
       (either Sends (rule_allows s s.numbers.blocks s.numbers.next) _ _
-      (record { rules_are = more.rules_are; tpdus = all_append Q (dts_of s s.numbers.next) (normals fuel (sent_normal s)).tpdus (dt_said s s.numbers.next is) more.tpdus })
+      (record { rules_are = more.rules_are; tpdus = all_both Q (dts_of s s.numbers.next) (normals fuel (sent_normal s)).tpdus (dt_said s s.numbers.next is) more.tpdus })
       (either Sends (is_noted s.noted s.numbers.next) _ _ (nothing_sent s is) (record { rules_are = is; tpdus = tt })))
 
   where_sent : (s : FlowSender) → s.rules ≡ rules → Sends (normals_where s)
@@ -156,7 +157,7 @@ module _ (b : EndRecord) (terms : Options) (agreed : b.agreed ≡ Some terms) wh
   frozen_said events tpdus all = record { keeps = same_party b; tpdus = all }
 
   led_said : (events : List EndEvent) (tpdus : List Sent) (m : Moved) → AllByRecursion Q tpdus → Speaks b m → Speaks b (led_by events tpdus m)
-  led_said events tpdus m all h = record { keeps = h.keeps; tpdus = all_append Q tpdus m.tpdus all h.tpdus }
+  led_said events tpdus m all h = record { keeps = h.keeps; tpdus = all_both Q tpdus m.tpdus all h.tpdus }
 
   sending_said : (o : InOpened) (s : Sendings) → AllByRecursion Q s.tpdus → Speaks b (sending b o s)
   sending_said o s all = record { keeps = same_party b; tpdus = all }

@@ -22,7 +22,8 @@ use Rattle.tp4_entity.proofs.Standings.{within}
 use Rattle.law_tp4_associations.proofs.Dues.{IsDueAt, first_is_due, none_due}
 use Rattle.tp4_world.specs.World.{entity_at, with_entity}
 use Rattle.tp4_world.specs.declared.place.Placed.{Placed}
-use Rattle.law_tp4_lawful.proofs.Frames.{entity_other, entity_set}
+use Rattle.tp4_world.proofs.Entities.{with_found}
+use Rattle.law_tp4_lawful.proofs.Frames.{entity_other}
 use Rattle.law_tp4_lawful.proofs.MakesPlaces.{at_other, at_same}
 use Rattle.law_calm_run.proofs.Hall.{Clocks, Hall, Over, Post, TickGoes, TickStep, Ticking, Ticks, TicksDone, TicksMore, posted}
 use Rattle.law_recovery_run.specs.Requesting.{IsSentAgain, cr_from, in_cr_wait, sent_again}
@@ -57,7 +58,7 @@ module _ (now system own : ℕ) (b : EndRecord) (r : InCrWait) (some : 1 ≤ b.t
           let at_it : system ≡ place = eqb-true system place here in
           record {
             entity = is;
-            there = ap (λ (ps : List Placed). entity_at ps system) entities ∙ ap (entity_at (with_entity old.entities place is)) at_it ∙ entity_set old.entities place was is there;
+            there = ap (λ (ps : List Placed). entity_at ps system) entities ∙ ap (entity_at (with_entity old.entities place is)) at_it ∙ with_found old.entities place was is there;
             stands = same at_it ∙ ap (λ (z : Entity). end_at z own) (same_Some was s.entity (sym there ∙ ap (entity_at old.entities) (sym at_it) ∙ s.there)) ∙ s.stands;
           }
       by false apart = record {
@@ -116,7 +117,7 @@ module _ (now system own : ℕ) (b : EndRecord) (r : InCrWait) (some : 1 ≤ b.t
           let inside = within t.entity t.reference d.end d.stands in
           Sent_now (record {
             entity = acted.entity;
-            there = ap (entity_at new.entities) here ∙ ap (λ (ps : List Placed). entity_at ps t.system) entities ∙ entity_set old.entities t.system t.entity acted.entity t.there;
+            there = ap (entity_at new.entities) here ∙ ap (λ (ps : List Placed). entity_at ps t.system) entities ∙ with_found old.entities t.system t.entity acted.entity t.there;
             stands = ap (end_at acted.entity) same ∙ ap (λ (z : Acted). end_at z.entity t.reference) acted_is
                 ∙ at_same (at old.clock t.entity) t.reference (kept_end m (due m.base m.stage)) inside.least inside.most ∙ ap (λ (z : Moved). kept_end z (due z.base z.stage)) m_is;
             waits = subst (λ (l : List Post). Contains l (cr_from system b r)) (sym posts)

@@ -46,20 +46,15 @@ use Rattle.tp4_world.specs.declared.place.EndAt.{EndAt}
 use Rattle.tp4_world.specs.declared.place.Placed.{Placed}
 use Rattle.tp4_world.proofs.Destinations.{ActsFine, EndsFine, SentFine, calling_fine, connecting_fine, taking_fine, ticking_fine}
 use Rattle.tp4_world.proofs.Having.{with_any}
-use Rattle.law_tp4_lawful.proofs.WorldPlaces.{none_some}
 use Rattle.law_calm_run.specs.Run.{HaveEntities, IsUnrouted}
 use Rattle.law_calm_run.proofs.Going.{have_after}
 use Rattle.law_calm_run.proofs.Hall.{IsAddress}
 use Rattle.law_calm_run.proofs.Queueing.{raw_between}
+use Rattle.law_calm_run.proofs.Starting.{none_fine}
 use Rattle.law_tp4_lawful.proofs.WorldStarts.{found}
 use Rattle.law_recovery_run.specs.Ordered.{LeadsOn, ReachedFrom}
 
 -- ---- ends that are none
-
-none_fine : (Fine : List ℕ → Type 0) (ends : List (Option End)) → AllByRecursion (λ place. place ≡ None) ends → EndsFine Fine ends
-none_fine Fine [] none = tt
-none_fine Fine (None ∷ ends) none = (tt, none_fine Fine ends none.1)
-none_fine Fine (Some end ∷ ends) none = absurd (none_some end (sym none.0))
 
 empty_fine : (Fine : List ℕ → Type 0) (count : ℕ) → EndsFine Fine (replicate count (let none : Option End = None in none))
 empty_fine Fine zero = tt

@@ -1,5 +1,5 @@
 -- At the start of a network of two end systems on one LAN nothing is left to deliver: the first hellos go to no system, and nothing else was sent.
-use Rattle.std.proofs.Common.{◌≡◌, ℕ, List, [], ◌∷◌, length, Option, None, slice_get, refl, sym, ◌∙◌, ap, subst, arith}
+use Rattle.std.proofs.Common.{◌≡◌, ℕ, List, [], ◌∷◌, length, Option, None, refl, sym, ◌∙◌, ap, subst, arith}
 use Rattle.std.specs.List.{AllByRecursion}
 use Rattle.std.proofs.lemmas.List.{append-nil}
 use Rattle.nsap.specs.declared.port.Port.{Port}
@@ -22,11 +22,8 @@ use Rattle.law_clnp_net.specs.Frames.{HasWaiting, IsSpent}
 use Rattle.law_clnp_net.proofs.Both.{both_tick}
 use Rattle.law_clnp_net.proofs.Gathered.{net_gathered}
 use Rattle.law_clnp_net.proofs.Spent.{closed_before}
+use Rattle.law_clnp_net.proofs.Lans.{beyond}
 use Rattle.law_run.specs.World.{Net, NetDoes, link_of_net}
-
-beyond : {X : Type 0} (xs : List X) → slice_get xs (length xs) ≡ None
-beyond [] = refl
-beyond (x ∷ xs) = beyond xs
 
 -- where no frame waits, no pair is fresh
 none_left : (bag : Bag) → HasWaiting bag [] → IsLeastFresh (link_of bag) None

@@ -1,6 +1,6 @@
 -- Why an Opened end leaves by a tick: by what was so at t0, or it would not be due.
 use Rattle.std.proofs.Common.{◌≡◌, ◌⊎◌, inl, inr, ◌<◌, ◌≤◌, ℕ, ◌+◌, ◌||◌, nat_le, Bool, true, false, if◌then◌else◌, List, [], ◌∷◌, Option, Some, None, refl, sym, ◌∙◌, ap, arith, Contains, true≢false}
-use Rattle.std.specs.List.{list_any}
+use Rattle.std.specs.List.{AllByRecursion, list_any}
 use Rattle.std.proofs.lemmas.Bool.{and_parts, cases_Bool, leb-true}
 use Rattle.std.proofs.lemmas.List.Elements.{Contains-append_left, Contains-push}
 use Rattle.tp4_flow.specs.declared.rules.Life.TheVariants.{Exhausted, Goes}
@@ -11,7 +11,7 @@ use Rattle.law_recovery_pair.proofs.Keeping.{later_too}
 use Rattle.law_recovery_ends.specs.Due.{AreYoung}
 use Rattle.law_recovery_steps.specs.Quieting.{IsYoung}
 use Rattle.law_recovery_steps.specs.Going.{IsTryOf}
-use Rattle.law_recovery_steps.proofs.Tried.{AllTries, HaveTried, OutTries}
+use Rattle.law_recovery_steps.proofs.SendingAgain.{HaveTried, OutTries}
 
 either : (a b : Bool) → (a || b) ≡ true → (a ≡ true) ⊎ (b ≡ true)
 either true b e = inl refl
@@ -35,7 +35,7 @@ module _ (t0 now : ℕ) (first s : FlowSender) where
       let late : tries.last + s.rules.t1 ≤ now + 1 = leb-true _ _ parts.0 in
       record { tries = tries; early = early; spent = leb-true _ _ parts.1; last = omega (arith, late, young) }
 
-  window_spent : (window : List Tries) → list_any (is_spent s.rules.t1 s.rules.sendings (now + 1)) window ≡ true → AllTries (IsEarly t0 first) window → AreYoung s.rules.t1 now window → GivesUp t0 (now + 1) first s
+  window_spent : (window : List Tries) → list_any (is_spent s.rules.t1 s.rules.sendings (now + 1)) window ≡ true → AllByRecursion (IsEarly t0 first) window → AreYoung s.rules.t1 now window → GivesUp t0 (now + 1) first s
   window_spent [] e all young = absurd (true≢false (sym e))
   window_spent (tries ∷ window) e all young = elim (either (is_spent s.rules.t1 s.rules.sendings (now + 1) tries) (list_any (is_spent s.rules.t1 s.rules.sendings (now + 1)) window) e) [
     | inl here ↦ spent_parts tries here all.0 young.0
@@ -67,7 +67,7 @@ module _ (t0 now : ℕ) (first s : FlowSender) where
 
 -- at the beginning all is of then
 module _ (t0 : ℕ) (s : FlowSender) where
-  all_of : (window : List Tries) → ((tries : Tries) → Contains window tries → IsTryOf s tries) → AllTries (IsEarly t0 s) window
+  all_of : (window : List Tries) → ((tries : Tries) → Contains window tries → IsTryOf s tries) → AllByRecursion (IsEarly t0 s) window
   all_of [] f = tt
   all_of (tries ∷ window) f = (inl (f tries (Contains-append_left (tries ∷ []) window tries (Contains-push [] tries))), all_of window (λ x c. f x (later_too tries x window c)))
 

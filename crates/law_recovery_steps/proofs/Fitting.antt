@@ -1,10 +1,10 @@
 -- Pieces of units that are not too large join to no unit that is.
-use Rattle.std.proofs.Common.{◌≡◌, ◌⊎◌, inl, inr, ℕ, suc, ◌+◌, ◌*◌, ◌-◌, ◌<◌, ◌≤◌, ◌==◌, ◌||◌, Bool, true, false, nat_le, if◌then◌else◌, List, [], ◌∷◌, ◌++◌, length, get_or, set, Option, Some, None, refl, sym, ◌∙◌, ap, subst, arith, add-zero, length-append}
+use Rattle.std.proofs.Common.{◌≡◌, ◌⊎◌, inl, inr, ℕ, suc, ◌+◌, ◌*◌, ◌-◌, ◌<◌, ◌≤◌, ◌==◌, Bool, true, false, if◌then◌else◌, List, [], ◌∷◌, ◌++◌, length, get_or, set, Option, Some, None, refl, sym, ◌∙◌, ap, subst, arith, add-zero, length-append}
 use Rattle.std.proofs.lemmas.Bool.{cases_lt, ltb-true}
 use Rattle.std.proofs.lemmas.List.{length-take-le}
 use Rattle.tp4_number.specs.Number.{ahead, wire}
-use Rattle.tp4_number.specs.Receiver.{Inbox, Receiver, arrival, arrived_as, in_order, judged}
-use Rattle.tp4_number.specs.Window.{Joined, begun_by, is_held, is_larger, joined, joined_by, placed}
+use Rattle.tp4_number.specs.Receiver.{Receiver, arrival, arrived_as, in_order, judged}
+use Rattle.tp4_number.specs.Window.{Joined, begun_by, is_larger, joined, joined_by, placed}
 use Rattle.tp4_number.specs.declared.got.Got.{Got}
 use Rattle.tp4_number.specs.declared.got.Got.TheVariants.{Kept, Old, Outside, TooLarge}
 use Rattle.tp4_number.specs.declared.piece.Piece.{Piece}
@@ -12,6 +12,7 @@ use Rattle.tp4_number.specs.Traffic.{Dt_comes, Event, IsFit, Leads, May, Rules, 
 use Rattle.tp4_number.proofs.Past.{if_kept, kept_low}
 use Rattle.tp4_number.proofs.Sound.{Sound, reads}
 use Rattle.tp4_number.proofs.Steps.{all_sound}
+use Rattle.tp4_flow.proofs.Arrivals.{never_large}
 use Rattle.tp4_sending.specs.Pieces.{count_in, cut_at}
 use Rattle.law_tp4_history.specs.Complete.{AllFull, Complete}
 use Rattle.law_tp4_history.proofs.Complete.{one_piece, shown_on}
@@ -57,15 +58,6 @@ small : (g : Got) → (g ≡ Kept) ⊎ ((g ≡ Old) ⊎ (g ≡ Outside)) → g �
 small g (inl e) f = cc (sym e ∙ f)
 small g (inr (inl e)) f = cc (sym e ∙ f)
 small g (inr (inr e)) f = cc (sym e ∙ f)
-
--- a DT is not judged so before its piece is looked at
-never_large : (block : ℕ) (inbox : Inbox) (d : ℕ) → judged block inbox d ≡ TooLarge → ⊥
-never_large block inbox d = by (is_held inbox.held d || nat_le block d) (nat_le inbox.credit d)
-  where
-    by : (a b : Bool) → (if a then Old else if b then Outside else Kept) ≡ TooLarge → ⊥
-    by true b f = cc f
-    by false true f = cc f
-    by false false f = cc f
 
 pub pieces_fit : (size : ℕ) (units : List (List ℕ)) (block : ℕ) (r : Receiver) (n : ℕ) (piece : Piece) → HasPieces size units r → cut_at size units n ≡ Some piece → IsReadIn block r n
     → (arrival block r (wire block n) piece).got ≡ TooLarge → ⊥

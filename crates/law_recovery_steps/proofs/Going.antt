@@ -30,7 +30,7 @@ use Rattle.law_recovery_steps.specs.Going.{AreTimes, GoesItself, IsDisconnect, I
 use Rattle.law_recovery_steps.proofs.Causes.{GivesUp, IsEarly, gives_up, never_spent}
 use Rattle.law_recovery_steps.proofs.Parting.{Follows}
 use Rattle.law_recovery_steps.proofs.PartingRows.{LeavesByTick, RowDoes, RowLeaves, RowStays, Tried, Waited, call_does, data_does, release_then, tick_does}
-use Rattle.law_recovery_steps.proofs.Tried.{HaveTried}
+use Rattle.law_recovery_steps.proofs.SendingAgain.{HaveTried}
 
 -- an end since t0, at which it stood as `o`
 pub record IsKept (t0 now : ℕ) (o r : InOpened) : Type 0 where

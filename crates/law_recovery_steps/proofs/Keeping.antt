@@ -2,7 +2,7 @@
 use Rattle.std.proofs.Common.{◌≡◌, ◌⊎◌, inl, inr, ◌<◌, ◌≤◌, ℕ, ◌+◌, ◌*◌, ◌==◌, ◌||◌, ◌&&◌, not, nat_le, Bool, true, false, if◌then◌else◌, List, [], ◌∷◌, Option, Some, None, refl, sym, ap, subst, arith, true≢false}
 use Rattle.std.proofs.Math.Nat.{mul-le-mul_right}
 use Rattle.std.proofs.lemmas.Bool.{and_parts, leb-true}
-use Rattle.std.specs.List.{list_any}
+use Rattle.std.specs.List.{AllByRecursion, list_any}
 use Rattle.tpdu.specs.declared.tpdu.Tpdu.{Tpdu}
 use Rattle.tpdu.specs.declared.tpdu.Tpdu.TheVariants.{Ak, Cc, Cr, Dc, Dr, Dt, Ea, Ed}
 use Rattle.tp4_number.specs.declared.got.Got.{Got}
@@ -26,10 +26,9 @@ use Rattle.tp4_conn.specs.End.{End, Moved, stays}
 use Rattle.tp4_conn.specs.Matching.{wants_sum}
 use Rattle.tp4_conn.specs.Opened.{acking, dt_as, granting, hearing, is_expedited, opened_as, opened_goes, opened_tick, opened_tpdu, protocol_error, receiving, sending}
 use Rattle.tp4_conn.specs.Table.{Called, Event, Ticked, Took, at as now_at, on_call, on_tpdu, stepped, untaken}
-use Rattle.law_recovery_steps.proofs.Tried.{AllTries, HaveTried, OutTries}
 use Rattle.law_recovery_steps.specs.Laws.{RowsKeepUp}
 use Rattle.law_recovery_steps.specs.Since.{EndsIt, IsTriedSince, IsUpToDate, MayLeave, StaysUpToDate}
-use Rattle.law_recovery_steps.proofs.SendingAgain.{IsTrying, acknowledged_tried, done_tried, each_of, submitted_tried, ticked_tried, tries_of, urged_tried}
+use Rattle.law_recovery_steps.proofs.SendingAgain.{HaveTried, IsTrying, OutTries, acknowledged_tried, done_tried, each_of, submitted_tried, ticked_tried, tries_of, urged_tried}
 
 goes_not : Goes ≡ Exhausted → ⊥
 goes_not e = cc e
@@ -144,7 +143,7 @@ module _ (t : Timers) (s : ℕ) (b : EndRecord) (o : InOpened) (timers : b.timer
       let all_of : t.sendings * t.t1 ≤ tries.count * t.t1 = mul-le-mul_right t.t1 (subst (λ (n : ℕ). n ≤ tries.count) sendings_is few) in
       omega (arith, past, is, all_of, t1_is)
 
-  window_late : (window : List Tries) → list_any (is_spent o.halves.sending.rules.t1 o.halves.sending.rules.sendings b.clock) window ≡ true → AllTries P window → s + t.sendings * t.t1 ≤ b.clock
+  window_late : (window : List Tries) → list_any (is_spent o.halves.sending.rules.t1 o.halves.sending.rules.sendings b.clock) window ≡ true → AllByRecursion P window → s + t.sendings * t.t1 ≤ b.clock
   window_late [] e tried = absurd (true≢false (sym e))
   window_late (tries ∷ window) e tried =
       elim (either (is_spent o.halves.sending.rules.t1 o.halves.sending.rules.sendings b.clock tries) (list_any (is_spent o.halves.sending.rules.t1 o.halves.sending.rules.sendings b.clock) window) e) [

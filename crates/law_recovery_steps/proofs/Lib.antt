@@ -32,6 +32,5 @@ pub mod Showing
 pub mod Spoken
 pub mod Steps
 pub mod Timely
-pub mod Tried
 pub mod Trying
 pub mod Urging

@@ -27,7 +27,7 @@ use Rattle.tp4_conn.specs.Table.{on_call}
 use Rattle.law_tp4_pair.specs.Standing.{HasLeft}
 use Rattle.law_tp4_pair.specs.Waiting.{IsDataFor}
 use Rattle.law_recovery_steps.specs.Going.{IsDisconnect, IsWrong}
-use Rattle.law_recovery_steps.proofs.Tried.{HaveTried, acknowledged_kept, done_kept, submitted_kept, ticked_kept, urged_kept}
+use Rattle.law_recovery_steps.proofs.SendingAgain.{HaveTried, IsTrying, acknowledged_tried, done_tried, submitted_tried, ticked_tried, urged_tried}
 
 -- a DR with this checksum or without is among them
 abbrev pub IsRelease : Bool → Tpdu → Bool → Type 0
@@ -70,6 +70,9 @@ pub data LeavesByTick (b : EndRecord) (q : InOpened) (m : Moved) : Type 0 where
   Tried : life_of (at b.clock q.halves.sending) ≡ Exhausted → m ≡ closing b (gone b Spent []) 128 [] b.clock → LeavesByTick b q m
 
 module _ (P : Tries → Type 0) (new : (tick : ℕ) → P (once tick)) (b : EndRecord) (q : InOpened) where
+  trying : HaveTried P q.halves.sending → IsTrying P (at b.clock q.halves.sending)
+  trying h = record { tried = record { window = h.window; out = h.out }; new = new b.clock }
+
   -- the sending half goes on
   sends : {Why : Type 0} (took : ℕ) (z : Sendings) → (HaveTried P q.halves.sending → HaveTried P z.sender) → RowDoes P Why b.clock took b q (sending b (record q { took = took }) z)
   sends {Why} took z kept = record {
@@ -133,8 +136,8 @@ module _ (P : Tries → Type 0) (new : (tick : ℕ) → P (once tick)) (b : EndR
   data_does partner (Dt destination last w text) kind = dt_does (dt_arrival q.halves.receiving w (record { last = last; octets = text })).got destination last w text refl
   data_does partner (Ed destination last w text) kind = ed_does (is_expedited b.agreed) destination last w text refl
   data_does partner (Ak destination w credit subsequence confirmation) kind =
-      sends b.clock (acknowledged (at b.clock q.halves.sending) w credit subsequence) (λ h. acknowledged_kept P new (at b.clock q.halves.sending) w credit subsequence (record { window = h.window; out = h.out }))
-  data_does partner (Ea destination w) kind = sends b.clock (urgent_done (at b.clock q.halves.sending) w) (λ h. done_kept P new (at b.clock q.halves.sending) w (record { window = h.window; out = h.out }))
+      sends b.clock (acknowledged (at b.clock q.halves.sending) w credit subsequence) (λ h. acknowledged_tried P (at b.clock q.halves.sending) w credit subsequence (trying h))
+  data_does partner (Ea destination w) kind = sends b.clock (urgent_done (at b.clock q.halves.sending) w) (λ h. done_tried P (at b.clock q.halves.sending) w (trying h))
   data_does partner other kind = absurd kind
 
   -- ---- a call of its user
@@ -148,8 +151,8 @@ module _ (P : Tries → Type 0) (new : (tick : ℕ) → P (once tick)) (b : EndR
   same {Why} = record { holding = record { timers = refl; agreed = refl }; does = inr (record { after = q; stage = refl; tried = λ h. h; took_is = refl; acked = inl refl }) }
 
   pub call_does : (call : UserCall) → RowDoes P (IsDisconnect call) b.clock q.took b q (on_call b (Opened q) call)
-  call_does (Normal unit) = sends q.took (submitted (at b.clock q.halves.sending) unit) (λ h. submitted_kept P new (at b.clock q.halves.sending) unit (record { window = h.window; out = h.out }))
-  call_does (Urgent unit) = sends q.took (urged (at b.clock q.halves.sending) unit) (λ h. urged_kept P new (at b.clock q.halves.sending) unit (record { window = h.window; out = h.out }))
+  call_does (Normal unit) = sends q.took (submitted (at b.clock q.halves.sending) unit) (λ h. submitted_tried P (at b.clock q.halves.sending) unit (trying h))
+  call_does (Urgent unit) = sends q.took (urged (at b.clock q.halves.sending) unit) (λ h. urged_tried P (at b.clock q.halves.sending) unit (trying h))
   call_does (Window credit) = grant_does credit
   call_does (Disconnect octets) = record { holding = record { timers = refl; agreed = refl }; does = inl (record { left = tt; why = tt; release = inl refl }) }
   call_does other = same
@@ -177,7 +180,7 @@ module _ (P : Tries → Type 0) (new : (tick : ℕ) → P (once tick)) (b : EndR
 
     lives_does : (life_is : Life) → life_of (at b.clock q.halves.sending) ≡ life_is → Does (opened_as life_is b q)
     lives_does Exhausted e = record { holding = record { timers = refl; agreed = refl }; does = inl (record { left = tt; why = Tried e refl; release = inl refl }) }
-    lives_does Goes e = goes_does (ticked (at b.clock q.halves.sending)) (λ h. ticked_kept P new (at b.clock q.halves.sending) more (record { window = h.window; out = h.out }))
+    lives_does Goes e = goes_does (ticked (at b.clock q.halves.sending)) (λ h. ticked_tried P (at b.clock q.halves.sending) (λ tries due is. more tries) (trying h))
 
     pub tick_does : Does (opened_tick b q)
     unfolding opened_tick

@@ -1,11 +1,10 @@
 -- The calls of a sending half: what they put behind what waits is what the road gets.
 use Rattle.std.specs.Prelude.{not, is_some}
-use Rattle.std.specs.List.{sum_by}
-use Rattle.std.proofs.Common.{◌≡◌, inr, inl, ℕ, zero, suc, ◌+◌, ◌-◌, ◌<◌, ◌≤◌, ◌==◌, ◌||◌, nat_le, nat_lt, max, min, true, if◌then◌else◌, List, [], ◌∷◌, ◌++◌, drop, length, length-append, length-drop, Option, Some, None, refl, sym, ◌∙◌, ap, subst, arith, append-nil, append_assoc, Contains}
+use Rattle.std.proofs.Common.{◌≡◌, inr, inl, ℕ, zero, suc, ◌+◌, ◌-◌, ◌<◌, ◌≤◌, ◌==◌, ◌||◌, nat_lt, max, min, true, if◌then◌else◌, List, [], ◌∷◌, ◌++◌, drop, length, length-append, length-drop, Option, Some, None, refl, sym, ◌∙◌, ap, subst, arith, append-nil, append_assoc, Contains}
 use Rattle.std.proofs.lemmas.Bool.{and_parts, lt-ltb, ltb-true, not-false}
 use Rattle.std.proofs.lemmas.List.{length-map, length-take}
 use Rattle.std.proofs.lemmas.List.Elements.{Contains-append_left, Contains-push, Contains-push_cases}
-use Rattle.std.proofs.lemmas.List.Sums.{sum_by-append, sum_by-cons}
+use Rattle.std.proofs.lemmas.List.Sums.{sum_by-append}
 use Rattle.tp4_number.specs.declared.blocks.Blocks.{Blocks}
 use Rattle.tp4_number.specs.declared.piece.Piece.{Piece}
 use Rattle.tp4_number.specs.Formats.{block_of}
@@ -21,11 +20,12 @@ use Rattle.tp4_flow.specs.declared.rules.Life.{Life}
 use Rattle.tp4_flow.specs.declared.rules.Life.TheVariants.{Goes, Exhausted}
 use Rattle.tp4_flow.specs.declared.step.Sent.{Sent}
 use Rattle.tp4_sending.specs.SendingHalf.{FlowSender, Sendings, acknowledged, acknowledged_to, all_dts, block_in, dts, dts_of, due_numbers, eds, has_next, is_noted, is_outstanding, is_taken, is_urgent, life_of, marked_all, new_sends, normals, normals_where, nothing, one_normal, one_urgent, resends, resends_urgent, resends_urgent_as, rule_allows, sent_normal, submitted, then_sends, ticked, ticked_as, urged, urgent_done}
-use Rattle.tp4_sending.specs.Pieces.{Queue, again, count_in, cut_at, end_of, freed_by, is_due, once}
+use Rattle.tp4_sending.specs.Pieces.{Queue, again, count_in, cut_at, end_of, is_due, once}
 use Rattle.tp4_sending.specs.declared.tries.Tries.{Tries}
 use Rattle.tp4_sending.proofs.Advances.{taken_from}
 use Rattle.tp4_sending.proofs.Frees.{freed_left}
 use Rattle.tp4_sending.proofs.Goings.{piece_there}
+use Rattle.tp4_sending.proofs.Totals.{freed_end}
 use Rattle.law_recovery_pair.specs.Riding.{Aside, GoesOn, road_of, rules_by, sent_aside, sent_at}
 use Rattle.law_recovery_pair.proofs.RidingSends.{AreWithin, IsAlike, due_within, moves_then, regroup, sent_at_then, told_same}
 use Rattle.law_recovery_pair.proofs.Viewing.{told_is}
@@ -89,14 +89,6 @@ marked_all_high block now low high b [] within up = refl
 marked_all_high block now low high b (n ∷ ns) within up =
     let one : (marked block b n now).high ≡ b.high = omega (arith, marked_high block b n now, within.1, up) in
     marked_all_high block now low high (marked block b n now) ns within.2 (omega (arith, one, up)) ∙ one
-
--- what is freed leaves the end
-freed_end : (size n first : ℕ) (units : List (List ℕ)) → end_of size (freed_by size n first units) ≡ first + sum_by (count_in size) units
-freed_end size n first [] = refl
-freed_end size n first (unit ∷ units) =
-    if_kept (λ (q : Queue). end_of size q ≡ first + sum_by (count_in size) (unit ∷ units)) (nat_le (first + count_in size unit) n) _ _
-    (λ _. omega (arith, freed_end size n (first + count_in size unit) units, sum_by-cons (count_in size) unit units))
-    (λ _. refl)
 
 sent_fed : (s : FlowSender) → IsFed s → s.numbers.next < end_of s.rules.piece s.queue → IsFed (sent_normal s)
 sent_fed s f below =

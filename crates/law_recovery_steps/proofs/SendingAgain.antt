@@ -1,8 +1,10 @@
 -- What a sending half tries since a tick: what it tried so before, what it sends now for the first time, and what it sends again T1 ticks after the last time or later.
 use Rattle.std.specs.Prelude.{not, is_some}
-use Rattle.std.proofs.Common.{◌≡◌, inl, inr, ◌-◌, ◌==◌, ◌||◌, ℕ, zero, suc, true, List, [], ◌∷◌, ◌++◌, take, drop, length, Option, Some, None, refl, subst, arith, Contains}
+use Rattle.std.proofs.Common.{◌≡◌, inl, inr, ◌-◌, ◌==◌, ◌||◌, ℕ, zero, suc, true, List, [], ◌∷◌, ◌++◌, drop, length, Option, Some, None, refl, subst, arith, Contains}
+use Rattle.std.specs.List.{AllByRecursion}
 use Rattle.std.proofs.lemmas.List.Elements.{Contains-append_cases, Contains-append_left, Contains-push, Contains-push_cases}
 use Rattle.std.proofs.lemmas.Option.{none-some, same_Some}
+use Rattle.osi_base.proofs.Members.{all_both, all_drop, all_take}
 use Rattle.law_recovery_pair.proofs.Keeping.{later_too}
 use Rattle.tp4_number.specs.Number.{near}
 use Rattle.tp4_number.proofs.Past.{if_kept}
@@ -12,7 +14,15 @@ use Rattle.tp4_sending.specs.SendingHalf.{FlowSender, Sendings, acknowledged, ac
 use Rattle.tp4_sending.specs.Pieces.{again, end_of, is_due, once, resent}
 use Rattle.tp4_sending.specs.declared.tries.Tries.{Tries}
 use Rattle.law_recovery_steps.specs.Causes.{IsTryOf}
-use Rattle.law_recovery_steps.proofs.Tried.{AllTries, HaveTried, OutTries}
+
+-- all that is tried
+abbrev pub OutTries : (Tries → Type 0) → Option Tries → Type 0
+OutTries P None = Unit {0}
+OutTries P (Some tries) = P tries
+
+pub record HaveTried (P : Tries → Type 0) (s : FlowSender) : Type 0 where
+  pub window : AllByRecursion P s.window
+  pub out : OutTries P s.urgent.out
 
 -- a half of which all that is tried is so, and what it sends now for the first time
 pub record IsTrying (P : Tries → Type 0) (s : FlowSender) : Type 0 where
@@ -20,20 +30,6 @@ pub record IsTrying (P : Tries → Type 0) (s : FlowSender) : Type 0 where
   pub new : P (once s.clock)
 
 module _ (P : Tries → Type 0) where
-  push_tries : (window : List Tries) (last : Tries) → AllTries P window → P last → AllTries P (window ++ last ∷ [])
-  push_tries [] last all is = (is, tt)
-  push_tries (tries ∷ window) last all is = (all.0, push_tries window last all.1 is)
-
-  drop_tries : (k : ℕ) (window : List Tries) → AllTries P window → AllTries P (drop k window)
-  drop_tries zero window all = all
-  drop_tries (suc k) [] all = tt
-  drop_tries (suc k) (tries ∷ window) all = drop_tries k window all.1
-
-  take_tries : (k : ℕ) (window : List Tries) → AllTries P window → AllTries P (take k window)
-  take_tries zero window all = tt
-  take_tries (suc k) [] all = tt
-  take_tries (suc k) (tries ∷ window) all = (all.0, take_tries k window all.1)
-
   abbrev Tried : Sendings → Type 0
   Tried x = HaveTried P x.sender
 
@@ -45,7 +41,7 @@ module _ (P : Tries → Type 0) where
   normals_tried (suc fuel) s b =
       if_kept Trying (not (has_next s)) _ _ (λ _. b)
       (λ _. if_kept Trying (rule_allows s s.numbers.blocks s.numbers.next) _ _
-      (λ _. normals_tried fuel (sent_normal s) (record { tried = record { window = push_tries s.window (once s.clock) b.tried.window b.new; out = b.tried.out }; new = b.new }))
+      (λ _. normals_tried fuel (sent_normal s) (record { tried = record { window = all_both P s.window (once s.clock ∷ []) b.tried.window (b.new, tt); out = b.tried.out }; new = b.new }))
       (λ _. if_kept Trying (is_noted s.noted s.numbers.next) _ _ (λ _. b) (λ _. record { tried = record { window = b.tried.window; out = b.tried.out }; new = b.new })))
 
   where_tried : (s : FlowSender) → IsTrying P s → Trying (normals_where s)
@@ -73,7 +69,7 @@ module _ (P : Tries → Type 0) where
       let t = acknowledged_to s n granted subsequence in
       if_kept Tried (is_taken s n granted subsequence) _ _
       (λ _. new_tried t (record {
-        tried = record { window = take_tries (t.numbers.next - n) (drop (n - s.numbers.base) s.window) (drop_tries (n - s.numbers.base) s.window b.tried.window); out = b.tried.out };
+        tried = record { window = all_take P (t.numbers.next - n) (drop (n - s.numbers.base) s.window) (all_drop P (n - s.numbers.base) s.window b.tried.window); out = b.tried.out };
         new = b.new;
       }))
       (λ _. b.tried)
@@ -85,7 +81,7 @@ module _ (P : Tries → Type 0) where
   -- ---- a tick
 
   module _ (s : FlowSender) (more : (tries : Tries) → is_due s.rules.t1 s.clock tries ≡ true → P tries → P (again s.clock tries)) where
-    again_tries : (window : List Tries) → AllTries P window → AllTries P (resent s.rules.t1 s.clock window)
+    again_tries : (window : List Tries) → AllByRecursion P window → AllByRecursion P (resent s.rules.t1 s.clock window)
     again_tries [] all = tt
     again_tries (tries ∷ window) all = (if_kept P (is_due s.rules.t1 s.clock tries) _ _ (λ due. more tries due all.0) (λ _. all.0), again_tries window all.1)
 
@@ -107,7 +103,7 @@ module _ (P : Tries → Type 0) where
 -- ---- each try, and all of them
 
 module _ (P : Tries → Type 0) where
-  all_of : (window : List Tries) → ((tries : Tries) → Contains window tries → P tries) → AllTries P window
+  all_of : (window : List Tries) → ((tries : Tries) → Contains window tries → P tries) → AllByRecursion P window
   all_of [] f = tt
   all_of (tries ∷ window) f = (f tries (Contains-append_left (tries ∷ []) window tries (Contains-push [] tries)), all_of window (λ x c. f x (later_too tries x window c)))
 
@@ -118,7 +114,7 @@ module _ (P : Tries → Type 0) where
   pub tries_of : (s : FlowSender) → ((tries : Tries) → IsTryOf s tries → P tries) → HaveTried P s
   tries_of s f = record { window = all_of s.window (λ tries c. f tries (inl c)); out = out_of s.urgent.out (λ tries is. f tries (inr is)) }
 
-  in_window : (window : List Tries) (tries : Tries) → AllTries P window → Contains window tries → P tries
+  in_window : (window : List Tries) (tries : Tries) → AllByRecursion P window → Contains window tries → P tries
   in_window [] tries all c = absurd (omega (arith, c.1))
   in_window (first ∷ window) tries all c = elim (Contains-append_cases (first ∷ []) window tries c) [
     | inl here ↦ elim (Contains-push_cases [] first tries here) [ inl none ↦ absurd (omega (arith, none.1)) | inr same ↦ subst P same all.0 ]

@@ -27,11 +27,11 @@ use Rattle.tp4_entity.proofs.Restarts.{none_stands}
 use Rattle.script_journal.specs.Lawful.{Expedited, Marked, Normal as Data, normals, submitted}
 use Rattle.script_journal.specs.declared.event.Event.{Event}
 use Rattle.script_journal.specs.declared.event.Event.TheVariants as events
+use Rattle.script_journal.proofs.Showing.{submitted_both}
 use Rattle.law_tp4_history.specs.Ends.{Offer}
 use Rattle.law_tp4_history.specs.History.{History}
 use Rattle.law_tp4_history.specs.Journals.{IsAside}
 use Rattle.law_tp4_history.specs.Tracks.{Whole}
-use Rattle.law_tp4_history.proofs.Appended.{submitted-append}
 use Rattle.law_tp4_history.proofs.Marks.{normals-append}
 use Rattle.tp4_world.specs.Telling.{call_events, connect_event, ends_after, events_after}
 use Rattle.tp4_world.specs.World.{entity_at, latest, with_entity}
@@ -70,7 +70,7 @@ few_then (unit ∷ a) b s t = (s.0, few_then a b s.1 t)
 
 short_on : (journal more : List Event) → AreShort journal → AreShort more → AreShort (journal ++ more)
 short_on journal more s t end =
-    subst (λ (units : List Marked). AreFew (normals units)) (sym (submitted-append end journal more))
+    subst (λ (units : List Marked). AreFew (normals units)) (sym (submitted_both end journal more))
     (subst AreFew (sym (normals-append (submitted end journal) (submitted end more))) (few_then (normals (submitted end journal)) (normals (submitted end more)) (s end) (t end)))
 
 pub aside_short : (journal made : List Event) → AreShort journal → IsAside made → AreShort (journal ++ made)

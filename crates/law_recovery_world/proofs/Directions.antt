@@ -43,6 +43,7 @@ use Rattle.law_tp4_history.proofs.Written.{Kept}
 use Rattle.law_tp4_history.specs.Lines.{IsReceivingAt, IsSendingAt}
 use Rattle.law_tp4_history.specs.Moves.{times_of}
 use Rattle.law_tp4_history.specs.Seen.{terms_of}
+use Rattle.law_tp4_history.proofs.FlowRows.{same_format}
 use Rattle.law_tp4_pair.specs.Pair.{Account}
 use Rattle.law_tp4_pair.specs.Flowing.{HasUnit}
 use Rattle.law_recovery_ends.specs.Resting.{WasReached}
@@ -57,7 +58,6 @@ use Rattle.law_tp4_lawful.proofs.Known.{IsKnown}
 use Rattle.law_tp4_lawful.proofs.Worlds.{Explains}
 use Rattle.law_tp4_lawful.proofs.FramesKnown.{keeps}
 use Rattle.law_tp4_lawful.proofs.ReferencesHalves.{AreThere, are_there, known_at, own_in}
-use Rattle.law_tp4_lawful.proofs.ReferencesMet.{same_format}
 use Rattle.law_tp4_lawful.proofs.ReferencesOwn.{are_partners}
 use Rattle.law_tp4_lawful.proofs.WorldOutcomes.{one_unit}
 use Rattle.law_recovery_world.specs.Lines.{HasViews}

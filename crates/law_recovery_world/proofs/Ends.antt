@@ -7,6 +7,7 @@ use Rattle.tpdu.specs.Values.{TpduAndSum}
 use Rattle.tpdu.specs.declared.tpdu.Tpdu.{Tpdu}
 use Rattle.tpdu.specs.declared.tpdu.Tpdu.TheVariants.{Cr, Cc, Dr, Dc, Dt, Ed, Ak, Ea, Er}
 use Rattle.tp4_number.specs.Number.{whole}
+use Rattle.tp4_number.proofs.Past.{if_kept}
 use Rattle.tp4_flow.specs.declared.step.Sent.{Sent}
 use Rattle.tp4_sending.specs.SendingHalf.{FlowSender}
 use Rattle.law_recovery_pair.specs.Viewing.{IsWithin}
@@ -20,7 +21,6 @@ use Rattle.tp4_conn.specs.declared.call.UserCall.{UserCall}
 use Rattle.tp4_conn.specs.declared.states.StateData.{StateData}
 use Rattle.tp4_conn.specs.declared.states.StateData.TheVariants.{CrWait, AkWait, Opened}
 use Rattle.tp4_conn.specs.declared.timers.Timers.{Timers}
-use Rattle.tp4_conn.proofs.Timely.{if_kept}
 use Rattle.law_tp4_rows.specs.Giving.{AllGive, EventGives, GivesCredit, GivesRow}
 use Rattle.law_tp4_rows.proofs.GivingRows.{connect_gives, indicated_gives, row_gives}
 use Rattle.law_recovery_ends.specs.Knowing.{RowKnows, StageKnows, ViewIn}

@@ -6,6 +6,7 @@ use Rattle.tpdu.specs.Values.{TpduAndSum, destination_of}
 use Rattle.tpdu.specs.declared.tpdu.Tpdu.{Tpdu}
 use Rattle.tpdu.specs.declared.tpdu.Tpdu.TheVariants.{Cr, Cc, Dr, Dc, Dt, Ed, Ak, Ea, Er}
 use Rattle.tp4_number.specs.Number.{whole}
+use Rattle.tp4_number.proofs.Past.{if_kept}
 use Rattle.tp4_sending.specs.SendingHalf.{FlowSender}
 use Rattle.tp4_conn.specs.End.{End, Moved, end_of}
 use Rattle.tp4_conn.specs.Making.{connected, on_cr}
@@ -15,7 +16,6 @@ use Rattle.tp4_conn.specs.declared.call.ConnectRequest.{ConnectRequest}
 use Rattle.tp4_conn.specs.declared.call.UserCall.{UserCall}
 use Rattle.tp4_conn.specs.declared.halves.Halves.{Halves}
 use Rattle.tp4_conn.specs.declared.timers.Timers.{Timers}
-use Rattle.tp4_conn.proofs.Timely.{if_kept}
 use Rattle.law_tp4_rows.specs.Giving.{EventGives, GivesCredit}
 use Rattle.law_recovery_ends.specs.Knowing.{HasHeard}
 use Rattle.tp4_entity.specs.Association.{answers, calls, is_called, is_registered, met, met_by, new_end, refusal, requested, unmatched}
@@ -40,7 +40,7 @@ use Rattle.law_recovery_world.proofs.SeeRows.{HearsIn, has_on, lift}
 use Rattle.law_recovery_world.proofs.Seeing.{More, all_see, ends_same, new_step, none_step, row_step, told}
 use Rattle.law_recovery_world.proofs.Telling.{none_told, row_told}
 
-kept_at : (m : Moved) (next : Option ℕ) (x : End) → kept_end m next ≡ Some x → x ≡ end_of m
+pub kept_at : (m : Moved) (next : Option ℕ) (x : End) → kept_end m next ≡ Some x → x ≡ end_of m
 kept_at m None x is = absurd (none-some x is)
 kept_at m (Some tick) x is = sym (some_same (end_of m) x is)
 

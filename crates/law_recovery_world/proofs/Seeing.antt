@@ -16,12 +16,13 @@ use Rattle.tp4_world.specs.Telling.{ends_after}
 use Rattle.tp4_world.specs.World.{entity_at, is_at, latest, latest_from, with_entity}
 use Rattle.tp4_world.specs.declared.place.EndAt.{EndAt}
 use Rattle.tp4_world.specs.declared.place.Placed.{Placed}
+use Rattle.tp4_world.proofs.Entities.{with_found}
 use Rattle.law_tp4_lawful.proofs.Acting.{IsLike}
 use Rattle.law_tp4_lawful.proofs.Known.{IsKnown, IsThere}
 use Rattle.law_tp4_lawful.proofs.Acts.{stage_of}
 use Rattle.law_tp4_lawful.proofs.ActsRows.{AreTold, row_of}
 use Rattle.law_tp4_lawful.proofs.ActsTold.{ends_stay}
-use Rattle.law_tp4_lawful.proofs.Frames.{entity_other, entity_set, place_other, place_there, same_ends}
+use Rattle.law_tp4_lawful.proofs.Frames.{entity_other, place_other, place_there, same_ends}
 use Rattle.law_tp4_lawful.proofs.MakesPlaces.{at_other, at_same}
 use Rattle.law_tp4_lawful.proofs.WorldPlaces.{some_same}
 use Rattle.law_recovery_world.specs.Steady.{IsSteady, StageTells}
@@ -67,7 +68,7 @@ module _ (titles : List (List ℕ)) (timers : Timers) (w : Whole) (journal : Lis
   pub all_see : (later : List Told) (after : List EndAt) (acted : Entity) → More later → SeesStep later after acted → AreSeeing timers.credit new later (with_entity entities system acted) after
   all_see later after acted on step other x there reference e stands = elim (cases_eq other system) [
     | inl same ↦
-        (let x_is : acted ≡ x = some_same acted x (sym (entity_set entities system entity acted is) ∙ ap (entity_at (with_entity entities system acted)) (sym same) ∙ there) in
+        (let x_is : acted ≡ x = some_same acted x (sym (with_found entities system entity acted is) ∙ ap (entity_at (with_entity entities system acted)) (sym same) ∙ there) in
         subst (λ (s : ℕ). Stage later (latest after s reference) e.stage) (sym same)
         (elim (step.here reference e (ap (λ (z : Entity). end_at z reference) x_is ∙ stands)) [
           | inl stays ↦ subst (λ (y : ℕ). Stage later y e.stage) (sym stays.1) (on (latest ends system reference) e.stage (known.seeing system entity is reference e stays.0))

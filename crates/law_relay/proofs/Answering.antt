@@ -5,6 +5,7 @@ use Rattle.std.specs.Prelude.{IsSome, slice_get}
 use Rattle.std.specs.List.{AllByRecursion}
 use Rattle.osi_base.specs.Link.{Link}
 use Rattle.osi_base.specs.Calls.{Call, Keeps}
+use Rattle.osi_base.proofs.Members.{all_weaker}
 use Rattle.law_carrier_answers.specs.Answers.{AreOctets}
 use Rattle.law_clnp_net.specs.Standing.{is_nsap}
 use Rattle.script_journal.specs.declared.cause.Refused.TheVariants as refusals
@@ -42,7 +43,6 @@ use Rattle.tp4_relay.specs.Pump.{BalancesBy, Does, Parts, PumpStep, Reacts, Serv
 use Rattle.tp4_relay.specs.Reaction.{begins, confirms, goes as goes_for, inbound_goes, inbound_pair, outbound_goes, outbound_pair, reaction, request_for}
 use Rattle.tp4_relay.specs.Service.{ConnectedBy}
 use Rattle.tp4_relay.proofs.Telling.{rows_stay, rules_stay}
-use Rattle.tp4_relay.proofs.Tidy.{all_each}
 use Rattle.tp4_world.proofs.Places.{some_same}
 use Rattle.tp4_world.proofs.Serving.{serves_on}
 use Rattle.tp4_world.specs.Run.{Calls, Connects, RunsLine, clock_of, transport_address}
@@ -295,7 +295,7 @@ module _ {C : Type 0} (link : C → Link (List ℕ)) (steps : C → Call (List �
     holds = holds;
     clock = clock;
     needed = λ system is. still system (a.needed system is);
-    has = all_each (HasRow old) (HasRow new) kept.rows (λ row there. still row.system there) a.has;
+    has = all_weaker (HasRow old) (HasRow new) kept.rows (λ row there. still row.system there) a.has;
     credit = a.credit;
     leads = a.leads;
     rows = a.rows;

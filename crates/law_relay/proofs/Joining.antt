@@ -6,6 +6,7 @@ use Rattle.std.specs.List.{AllByRecursion, list_any}
 use Rattle.std.proofs.lemmas.Bool.{cases_eq, eq-eqb, false≢true}
 use Rattle.osi_base.specs.Link.{Link}
 use Rattle.osi_base.specs.Calls.{Call}
+use Rattle.osi_base.proofs.Young.{all_last}
 use Rattle.script_journal.specs.declared.cause.Refused.{Refused}
 use Rattle.script_journal.specs.declared.event.Event.{Event}
 use Rattle.script_journal.specs.declared.event.Event.TheVariants as events
@@ -25,8 +26,8 @@ use Rattle.tp4_world.specs.Run.{BeginsAt, Connects, ConnectsBy, IsRefused, clock
 use Rattle.tp4_world.specs.World.{World, entity_at, latest, with_entity}
 use Rattle.tp4_world.specs.declared.place.EndAt.{EndAt}
 use Rattle.tp4_world.specs.declared.place.Placed.{Placed}
-use Rattle.law_tp4_lawful.proofs.Frames.{entity_set}
-use Rattle.law_tp4_lawful.proofs.MakesPlaces.{at_same}
+use Rattle.tp4_world.proofs.Entities.{with_found}
+use Rattle.law_tp4_lawful.proofs.MakesPlaces.{at_same, latest_other}
 use Rattle.tp4_relay.specs.declared.pair.Pair.{Pair}
 use Rattle.tp4_relay.specs.declared.pair.Phase.TheVariants.{Begun}
 use Rattle.tp4_relay.specs.Allowed.{AreLine, IsLine}
@@ -36,9 +37,10 @@ use Rattle.tp4_relay.specs.Reaction.{outbound_pair}
 use Rattle.tp4_relay.specs.steps.Rising.{IsRisingBy, inbound_of}
 use Rattle.law_relay.proofs.Linking.{IsOpened}
 use Rattle.law_relay.proofs.StageRows.{IsCalledWait, IsCallingWait}
-use Rattle.law_relay.proofs.Waits.{KeepsPairs, PairWaits, Waits, after_pairs, each_mapped, each_push, has_claim, has_inbound, noted_named, opened_begun, outbound_keeps}
-use Rattle.law_relay.proofs.Walks.{Linked, latest_low, latest_other}
+use Rattle.law_relay.proofs.Waits.{KeepsPairs, PairWaits, after_pairs, each_mapped, has_claim, has_inbound, noted_named, opened_begun, outbound_keeps}
+use Rattle.law_relay.proofs.Walks.{Linked, latest_low}
 use Rattle.tpdu.specs.declared.service.EndTold.TheVariants as tells
+use Rattle.tpdu.proofs.WriteLaws.{or_true}
 
 -- ---- lists
 
@@ -66,13 +68,13 @@ joined_linked entities ends kept inbound outbound l low has apart calls =
       named = noted_named kept (events.Joined inbound outbound) (length ends) l.named low;
       tidy = record {
         claims_low = l.tidy.claims_low;
-        outbounds = each_push (λ (p : Pair). p.outbound ≤ length ends) kept.pairs pair l.tidy.outbounds low;
-        inbounds = each_push (λ (p : Pair). has_claim kept.claims p.inbound ≡ true) kept.pairs pair l.tidy.inbounds has;
+        outbounds = all_last (λ (p : Pair). p.outbound ≤ length ends) kept.pairs pair l.tidy.outbounds low;
+        inbounds = all_last (λ (p : Pair). has_claim kept.claims p.inbound ≡ true) kept.pairs pair l.tidy.inbounds has;
       };
       of = l.of;
       waits = λ system r e end is stands. (let w = l.waits system r e end is stands in record {
         unjoined = λ claimed out. w.unjoined claimed (front_none (λ (p : Pair). p.inbound == latest ends system r) kept.pairs pair out);
-        paired = each_push (PairWaits (latest ends system r) end.stage) kept.pairs pair w.paired (λ begun. (
+        paired = all_last (PairWaits (latest ends system r) end.stage) kept.pairs pair w.paired (λ begun. (
           λ same. w.unjoined (subst (λ (n : ℕ). has_claim kept.claims n ≡ true) same has) (subst (λ (n : ℕ). has_inbound kept.pairs n ≡ false) same apart),
           λ same. calls system r e end is stands (sym same),
         ));
@@ -107,7 +109,7 @@ module _ {C : Type 0} (link : C → Link (List ℕ)) (steps : C → Call (List �
       subst (λ (w : World C). IsAsking old w) (sym is) (λ other r x end at_x stands number. elim (cases_eq other system) [
         | inl same ↦ elim (cases_eq r reference) [
           | inl here ↦
-              let own : Some next ≡ Some x = sym (entity_set old.entities system e next there) ∙ subst (λ (k : ℕ). entity_at (with_entity old.entities system next) k ≡ Some x) same at_x in
+              let own : Some next ≡ Some x = sym (with_found old.entities system e next there) ∙ subst (λ (k : ℕ). entity_at (with_entity old.entities system next) k ≡ Some x) same at_x in
               let x_is : next ≡ x = cc own in
               let put : Some (end_of m) ≡ Some end =
               sym (at_same (at now e) reference (Some (end_of m)) f.least f.most) ∙ subst (λ (k : ℕ). end_at next k ≡ Some end) here (subst (λ (y : Entity). end_at y r ≡ Some end) (sym x_is) stands) in
@@ -134,10 +136,6 @@ module _ {C : Type 0} (link : C → Link (List ℕ)) (steps : C → Call (List �
 
 abbrev AreOpened : List Pair → ℕ → Type 0
 AreOpened pairs n = (has_inbound pairs n ≡ true) × AllByRecursion (λ (pair : Pair). pair.phase ≡ Begun → pair.inbound ≡ n → ⊥) pairs
-
-or_true : (a b : Bool) → b ≡ true → (a || b) ≡ true
-or_true true b is = refl
-or_true false b is = is
 
 -- where inbound ends rise, the one of a pair that is confirmed is of no other pair
 found_above : (pairs : List Pair) (n end : ℕ) (pair : Pair) → AllByRecursion (λ (p : Pair). n < p.inbound) pairs → outbound_pair pairs end ≡ Some pair → n < pair.inbound

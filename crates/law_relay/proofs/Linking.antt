@@ -1,8 +1,8 @@
 -- What a line of a network does keeps that ends of a relay wait, and its events may come in a line of a relay (X.214, service primitives).
-use Rattle.std.proofs.Common.{◌≡◌, ◌⊎◌, inl, inr, ℕ, ◌+◌, ◌≤◌, ◌==◌, ◌||◌, not, Bool, true, false, if◌then◌else◌, List, [], ◌∷◌, ◌++◌, length, Option, Some, None, refl, sym, ◌∙◌, ap, subst, arith, append_assoc}
+use Rattle.std.proofs.Common.{◌≡◌, ◌⊎◌, inl, inr, ℕ, ◌+◌, ◌≤◌, ◌==◌, ◌||◌, Bool, true, false, if◌then◌else◌, List, [], ◌∷◌, ◌++◌, length, Option, Some, None, refl, sym, ◌∙◌, ap, subst, arith, append_assoc}
 use Rattle.std.specs.Prelude.{is_none}
 use Rattle.std.specs.List.{AllByRecursion}
-use Rattle.std.proofs.lemmas.Bool.{cases_eq, eqb-true, false≢true}
+use Rattle.std.proofs.lemmas.Bool.{cases_eq, false≢true}
 use Rattle.nsap.specs.Address.{selector_of}
 use Rattle.osi_base.specs.declared.note.Note.{Note}
 use Rattle.osi_base.specs.declared.unit.Arrival.{Arrival}
@@ -53,8 +53,9 @@ use Rattle.tp4_world.specs.declared.place.Placed.{Placed}
 use Rattle.law_tp4_lawful.proofs.ActsRows.{IsRowOf, row_of}
 use Rattle.law_tp4_lawful.specs.Own.{IsEndOf}
 use Rattle.law_tp4_lawful.proofs.ActsTold.{ends_stay}
-use Rattle.law_tp4_lawful.proofs.MakesPlaces.{at_other, latest_last, made_last}
+use Rattle.law_tp4_lawful.proofs.MakesPlaces.{at_other, latest_last, latest_other, made_last}
 use Rattle.law_tp4_lawful.proofs.SilenceEntities.{only_end, placed_of, placed_or}
+use Rattle.law_tp4_lawful.proofs.SilenceRuns.{number_by}
 use Rattle.tp4_relay.specs.declared.pair.Pair.{Pair}
 use Rattle.tp4_relay.specs.declared.pair.Phase.TheVariants.{Begun}
 use Rattle.tp4_relay.specs.Allowed.{AreLine, IsLine}
@@ -63,7 +64,7 @@ use Rattle.law_relay.specs.Asked.{is_relayed}
 use Rattle.law_relay.proofs.CallRows.{CallDoes, CallTells, IsNoAccept, call_does}
 use Rattle.law_relay.proofs.StageRows.{AllTold, IsCallingWait, TellsHeld, MayFollow}
 use Rattle.law_relay.proofs.Waits.{IsCommon, PairWaits, Waits, asking_waits, follows_waits, free_waits, has_inbound, noted_named, noted_tidy, noted_waits, tidy_more}
-use Rattle.law_relay.proofs.Walks.{Did, Goes, IsFine, Linked, Walked, after_append, did_take, did_tick, goes_then, held_walk, latest_low, latest_other, line_append, linked_by, walked_linked, walked_more, walked_none}
+use Rattle.law_relay.proofs.Walks.{Did, Goes, IsFine, Linked, Walked, after_append, did_take, did_tick, goes_then, held_walk, latest_low, line_append, linked_by, walked_linked, walked_more, walked_none}
 use Rattle.tpdu.specs.declared.service.EndTold.TheVariants as tells
 
 -- ---- events of no end that is kept
@@ -143,10 +144,6 @@ stands_by call (Some end) is = (end, refl, none_by (call_refusal end.base end.st
     none_by : (why : _) → refused_by why ≡ None → why ≡ None
     none_by None h = refl
     none_by (Some one) h = absurd (cc h)
-
-pub number_by : (same : Bool) (one number : ℕ) (rest : Bool) → (one == number) ≡ same → (not same || rest) ≡ false → one ≡ number
-number_by true one number rest is ended = eqb-true one number is
-number_by false one number rest is ended = absurd (cc ended)
 
 -- the own event of a call
 abbrev pub IsOwnEvent : ℕ → Event → Type 0

@@ -6,6 +6,7 @@ use Rattle.std.specs.List.{AllByRecursion}
 use Rattle.std.proofs.lemmas.Bool.{ne_eqb}
 use Rattle.osi_base.specs.Link.{Link}
 use Rattle.osi_base.specs.Calls.{Call}
+use Rattle.osi_base.proofs.Members.{all_weaker}
 use Rattle.script_journal.specs.declared.event.Event.{Event}
 use Rattle.script_journal.specs.declared.event.Event.TheVariants as events
 use Rattle.script_journal.specs.declared.event.Indication.{Indication}
@@ -36,7 +37,7 @@ use Rattle.tp4_relay.specs.steps.Tables.{AreNotable, IsNotable, IsTidy}
 use Rattle.tp4_relay.proofs.Carried.{does_has, does_made, does_named, line_allowed, line_sized, may_do, moved_line}
 use Rattle.tp4_relay.proofs.Commuting.{allowed_more, line_passes, made_allowed, made_fewer, made_more, moved, passes_notable}
 use Rattle.tp4_relay.proofs.Telling.{rows_stay, rules_stay}
-use Rattle.tp4_relay.proofs.Tidy.{all_each, all_notable, allowed_notable, tidy_all, tidy_more}
+use Rattle.tp4_relay.proofs.Tidy.{all_notable, allowed_notable, tidy_all, tidy_more}
 use Rattle.law_relay.specs.Services.{AsksEnd, AsksFor, ends_of, has_system, is_honest}
 use Rattle.law_relay.proofs.Allowing.{pair_allowed}
 use Rattle.law_relay.proofs.Joining.{JoinsNone, confirmed_opens, connect_asks, joined_linked, line_joins, line_opened}
@@ -152,7 +153,7 @@ module _ {C : Type 0} (link : C → Link (List ℕ)) (steps : C → Call (List �
 
   has_rows : (old new : World C) (kept : Kept) (made : List Event) → ((other : ℕ) → has_system old other → has_system new other) → AllByRecursion (HasRow old) kept.rows → AllByRecursion (HasRow new) (kept_after kept made).rows
   has_rows old new kept made still all =
-      subst (λ (rows : List RelayRow). AllByRecursion (HasRow new) rows) (sym (rows_stay kept made)) (all_each (HasRow old) (HasRow new) kept.rows (λ row h. still row.system h) all)
+      subst (λ (rows : List RelayRow). AllByRecursion (HasRow new) rows) (sym (rows_stay kept made)) (all_weaker (HasRow old) (HasRow new) kept.rows (λ row h. still row.system h) all)
 
   low_credit : (kept : Kept) (made : List Event) → kept.rules.credit ≤ 255 → (kept_after kept made).rules.credit ≤ 255
   low_credit kept made low = subst (λ (rules : Timers). rules.credit ≤ 255) (sym (rules_stay kept made)) low

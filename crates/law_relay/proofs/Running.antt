@@ -3,6 +3,7 @@ use Rattle.std.proofs.Common.{◌≡◌, ℕ, ◌+◌, ◌≤◌, Bool, true, fa
 use Rattle.std.specs.List.{AllByRecursion}
 use Rattle.osi_base.specs.Link.{Link}
 use Rattle.osi_base.specs.Calls.{Call, Keeps}
+use Rattle.osi_base.proofs.Members.{all_weaker}
 use Rattle.script_journal.specs.declared.cause.Refused.TheVariants as refused
 use Rattle.script_journal.specs.declared.event.Event.{Event}
 use Rattle.script_journal.specs.declared.event.Event.TheVariants as events
@@ -22,7 +23,7 @@ use Rattle.tp4_relay.specs.Kept.{Kept, kept_after, noted}
 use Rattle.tp4_relay.specs.steps.Tables.{IsTidy}
 use Rattle.tp4_relay.proofs.Commuting.{allowed_more, line_passes, passes_notable}
 use Rattle.tp4_relay.proofs.Telling.{rows_stay, rules_stay}
-use Rattle.tp4_relay.proofs.Tidy.{all_each, tidy_more}
+use Rattle.tp4_relay.proofs.Tidy.{tidy_more}
 use Rattle.law_relay.specs.Asked.{is_relayed}
 use Rattle.law_relay.specs.Relays.{Answers, Asking, Idle, LastTurn, OneTurn, Part, PumpsAfter, RelayRun, RunsPart, Settling, Turns, part_of}
 use Rattle.law_relay.specs.Services.{IsInOrder, has_system}
@@ -57,7 +58,7 @@ module _ {N : Type 0} (link : N → Link (List ℕ)) (steps : N → Call (List �
           order = record { quiet = line_quiet link steps wire titles line old new made s p.order.quiet; of = g.linked.of };
           linked = g.linked;
           has = subst (λ (rows : List RelayRow). AllByRecursion (HasRow new) rows) (sym (rows_stay kept made))
-              (all_each (HasRow old) (HasRow new) kept.rows (λ row there. among old.entities new.entities row.system near.systems there) p.has);
+              (all_weaker (HasRow old) (HasRow new) kept.rows (λ row there. among old.entities new.entities row.system near.systems there) p.has);
           credit = subst (λ (k : ℕ). k ≤ 255) (sym (ap (λ (rules : Timers). rules.credit) (rules_stay kept made))) p.credit;
           tidy = line_tidy (length new.ends) kept made p.tidy g.line;
         };

@@ -39,14 +39,16 @@ use Rattle.tp4_world.specs.Telling.{call_events, drop_events, ends_with, event_f
 use Rattle.tp4_world.specs.World.{World, end_numbered, entity_at, latest, with_entity}
 use Rattle.tp4_world.specs.declared.place.EndAt.{EndAt}
 use Rattle.tp4_world.specs.declared.place.Placed.{Placed}
+use Rattle.tp4_world.proofs.Entities.{with_found}
 use Rattle.law_tp4_lawful.proofs.ActsRows.{IsRowOf, row_of}
 use Rattle.law_tp4_lawful.proofs.ActsTold.{ends_stay}
-use Rattle.law_tp4_lawful.proofs.Frames.{entity_other, entity_set}
+use Rattle.law_tp4_lawful.proofs.Frames.{entity_other}
 use Rattle.law_tp4_lawful.proofs.MakesPlaces.{made_last}
+use Rattle.law_tp4_lawful.proofs.SilenceRuns.{number_by}
 use Rattle.tp4_relay.specs.Service.{ConnectedBy, IsAside, IsRefusal, IsService, ToldBy, ends_more}
 use Rattle.law_relay.specs.Services.{AsksEnd, AsksFor, IsInOrder, ends_of, has_system, is_done, is_honest}
 use Rattle.law_relay.proofs.CallRows.{CallDoes, CallTells, call_does}
-use Rattle.law_relay.proofs.Linking.{number_by, stands_by}
+use Rattle.law_relay.proofs.Linking.{stands_by}
 use Rattle.law_relay.proofs.StageRows.{AllTold, TellsHeld}
 use Rattle.tpdu.specs.declared.service.EndTold.TheVariants as tells
 
@@ -107,7 +109,7 @@ module _ {C : Type 0} (link : C → Link (List ℕ)) (steps : C → Call (List �
 
   some_with : (placed : List Placed) (system : ℕ) (e new : Entity) → entity_at placed system ≡ Some e → (other : ℕ) → IsSome (entity_at placed other) → IsSome (entity_at (with_entity placed system new) other)
   some_with placed system e new is other has = elim (cases_eq other system) [
-    | inl same ↦ subst (λ (found : Option Entity). IsSome found) (sym (ap (entity_at (with_entity placed system new)) same ∙ entity_set placed system e new is)) refl
+    | inl same ↦ subst (λ (found : Option Entity). IsSome found) (sym (ap (entity_at (with_entity placed system new)) same ∙ with_found placed system e new is)) refl
     | inr apart ↦ subst (λ (found : Option Entity). IsSome found) (sym (entity_other placed system other new apart)) has
   ]
 

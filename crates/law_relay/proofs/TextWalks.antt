@@ -17,6 +17,7 @@ use Rattle.osi_base.specs.declared.unit.Up.TheVariants.{Unit as Came, Note as No
 use Rattle.osi_base.specs.declared.unit.Wish.{Wish}
 use Rattle.osi_base.specs.Link.{Link}
 use Rattle.osi_base.specs.Calls.{Call}
+use Rattle.osi_base.proofs.Members.{all_both}
 use Rattle.script_journal.specs.RawLawful.{raw_address}
 use Rattle.script_journal.specs.declared.cause.Refused.{Refused}
 use Rattle.script_journal.specs.declared.cause.Refused.TheVariants as refusals
@@ -95,10 +96,6 @@ connect_other other = refl
 not_so : (b : Bool) → not b ≡ true → b ≡ false
 not_so true is = absurd (cc is)
 not_so false is = refl
-
-all_both : {A : Type 0} (Q : A → Type 0) (xs ys : List A) → AllByRecursion Q xs → AllByRecursion Q ys → AllByRecursion Q (xs ++ ys)
-all_both Q [] ys first rest = rest
-all_both Q (x ∷ xs) ys first rest = (first.0, all_both Q xs ys first.1 rest)
 
 module _ (P : List ℕ → Type 0) (none : P []) (both : (xs ys : List ℕ) → P xs → P ys → P (xs ++ ys))
     (read : (extended octets rest : List ℕ) (tpdu : TpduAndSum) → BeginsWithTpdu extended octets tpdu rest → P octets → HasText P none both tpdu.0 × P rest) where

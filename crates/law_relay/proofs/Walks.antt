@@ -1,7 +1,7 @@
 -- What an entity does keeps that ends of a relay wait: what its ends tell may come in a line of a relay (X.224, class 4 procedures).
 use Rattle.std.proofs.Common.{◌≡◌, ◌≢◌, inl, inr, ℕ, ◌+◌, ◌-◌, ◌<◌, ◌≤◌, ◌==◌, Bool, true, false, if◌then◌else◌, not, List, [], ◌∷◌, ◌++◌, length, slice_get, Option, Some, None, refl, sym, ◌∙◌, ap, subst, arith, append_assoc}
 use Rattle.std.specs.List.{AllByRecursion, list_any}
-use Rattle.std.proofs.lemmas.Bool.{cases_eq, ne_eqb}
+use Rattle.std.proofs.lemmas.Bool.{cases_eq}
 use Rattle.script_journal.specs.declared.event.Event.{Event as Told}
 use Rattle.script_journal.specs.declared.event.Event.TheVariants as events
 use Rattle.script_journal.specs.declared.event.Indication.{Indication}
@@ -38,11 +38,12 @@ use Rattle.tp4_world.specs.Telling.{ends_after, ends_with, event_for, events_aft
 use Rattle.tp4_world.specs.World.{entity_at, is_at, latest, latest_from, with_entity}
 use Rattle.tp4_world.specs.declared.place.EndAt.{EndAt}
 use Rattle.tp4_world.specs.declared.place.Placed.{Placed}
+use Rattle.tp4_world.proofs.Entities.{with_found}
 use Rattle.law_tp4_lawful.proofs.ActsRows.{AreTold, IsRowOf, IsTold, row_of}
 use Rattle.law_tp4_lawful.specs.Own.{IsEndOf}
 use Rattle.law_tp4_lawful.proofs.ActsTold.{ends_stay}
-use Rattle.law_tp4_lawful.proofs.Frames.{entity_other, entity_set}
-use Rattle.law_tp4_lawful.proofs.MakesPlaces.{at_other, at_same, latest_last, made_last}
+use Rattle.law_tp4_lawful.proofs.Frames.{entity_other}
+use Rattle.law_tp4_lawful.proofs.MakesPlaces.{at_other, at_same, latest_last, latest_other, made_last}
 use Rattle.law_tp4_lawful.proofs.SilenceEntities.{AreOf, ends_append, events_append, only_end, placed_of, placed_or}
 use Rattle.law_tp4_lawful.proofs.WorldPlaces.{with_again}
 use Rattle.tp4_relay.specs.declared.claim.Claim.{Claim}
@@ -78,22 +79,6 @@ latest_from_low next seen (end ∷ ends) system reference low =
 
 pub latest_low : (ends : List EndAt) (system reference : ℕ) → latest ends system reference ≤ length ends
 latest_low ends system reference = let low = latest_from_low 1 0 ends system reference (omega arith) in omega (arith, low)
-
-latest_from_other : (next seen : ℕ) (ends : List EndAt) (end : EndAt) (system reference : ℕ) → is_at system reference end ≡ false → latest_from next seen (ends ++ end ∷ []) system reference ≡ latest_from next seen ends system reference
-latest_from_other next seen [] end system reference apart = ap (λ (b : Bool). if b then next else seen) apart
-latest_from_other next seen (one ∷ ends) end system reference apart = latest_from_other (next + 1) (if is_at system reference one then next else seen) ends end system reference apart
-
-not_there : (system reference at r : ℕ) → (at ≡ system → r ≡ reference → ⊥) → is_at at r (record { system = system; reference = reference }) ≡ false
-not_there system reference at r apart = elim (cases_eq system at) [
-  | inl same ↦ (elim (cases_eq reference r) [
-    | inl is ↦ absurd (apart (sym same) (sym is))
-    | inr other ↦ grind (arith, ne_eqb)
-  ])
-  | inr other ↦ grind (arith, ne_eqb)
-]
-
-pub latest_other : (ends : List EndAt) (system reference at r : ℕ) → (at ≡ system → r ≡ reference → ⊥) → latest (ends ++ record { system = system; reference = reference } ∷ []) at r ≡ latest ends at r
-latest_other ends system reference at r apart = latest_from_other 1 0 ends (record { system = system; reference = reference }) at r (not_there system reference at r apart)
 
 -- ---- a network beside what is kept
 
@@ -278,7 +263,7 @@ module _ (system : ℕ) (address : List ℕ) where
     where
       is_new : (other : ℕ) (x : Entity) → other ≡ system → entity_at (with_entity entities system new) other ≡ Some x → new ≡ x
       is_new other x same at =
-          let first : entity_at (with_entity entities system new) other ≡ Some new = ap (entity_at (with_entity entities system new)) same ∙ entity_set entities system e new is in
+          let first : entity_at (with_entity entities system new) other ≡ Some new = ap (entity_at (with_entity entities system new)) same ∙ with_found entities system e new is in
           cc
 
   -- what an entity did, with what it tells
@@ -303,7 +288,7 @@ module _ (system : ℕ) (address : List ℕ) where
       let here : List Told = events_after ends system address xs in
       let rest : List Told = events_after (ends_after ends system xs) system address ys in
       let first = one entities ends kept is l in
-      let second = two (with_entity entities system mid) (ends_after ends system xs) (kept_after kept here) (entity_set entities system e mid is) first.linked in
+      let second = two (with_entity entities system mid) (ends_after ends system xs) (kept_after kept here) (with_found entities system e mid is) first.linked in
       let last : List EndAt = ends_after (ends_after ends system xs) system ys in
       let both : Goes ends kept (here ++ rest) (with_entity entities system new) last =
       goes_then ends (ends_after ends system xs) last kept here rest (with_entity entities system mid) (with_entity entities system new) first

@@ -28,6 +28,7 @@ use Rattle.law_run.proofs.CalmNames.{HasEndsAlone, came_ends}
 use Rattle.law_run.proofs.CalmNet.{MakesCalm, makes_calm}
 use Rattle.law_setup.specs.Lines.{Kept}
 use Rattle.law_setup.proofs.Kept.{line_kept}
+use Rattle.law_setup.proofs.Started.{still_started as begun}
 
 -- ---- the lines after the start
 
@@ -58,35 +59,6 @@ unrouted names (lines.Deliver frame system) h known = tt
 unrouted names (lines.Inject lan system octets) h known = tt
 unrouted names (lines.Restart system) h known = tt
 unrouted names (lines.Send system selector to called octets) h known = tt
-
--- where the start was, names stay
-begun : (started : Bool) (line : Line) → started ≡ true → started_after started line ≡ true
-begun started lines.Nothing is = is
-begun started (lines.Version version) is = is
-begun started (lines.Set key value) is = is
-begun started (lines.Lan name bound room) is = is
-begun started (lines.Es name title) is = is
-begun started (lines.Is name title) is = is
-begun started (lines.Port system lan snpa) is = is
-begun started (lines.Route system prefix next lan) is = is
-begun started (lines.Path name kind systems) is = is
-begun started (lines.Tsap system selector) is = is
-begun started (lines.Relay system selector to called) is = is
-begun started lines.Start is = refl
-begun started (lines.Connect system selector to called options octets) is = is
-begun started (lines.Accept end options octets) is = is
-begun started (lines.Refuse end octets) is = is
-begun started (lines.Disconnect end octets) is = is
-begun started (lines.Data end octets) is = is
-begun started (lines.Expedite end octets) is = is
-begun started (lines.Window end credit) is = is
-begun started (lines.Unit system to wish octets) is = is
-begun started lines.Tick is = is
-begun started lines.Settle is = is
-begun started (lines.Deliver frame system) is = is
-begun started (lines.Inject lan system octets) is = is
-begun started (lines.Restart system) is = is
-begun started (lines.Send system selector to called octets) is = is
 
 same_names : (names new : Declared) → (names.started ≡ false) ⊎ (new ≡ names) → names.started ≡ true → new ≡ names
 same_names names new (inl not) is = let clash : false ≡ true = sym not ∙ is in absurd (cc)

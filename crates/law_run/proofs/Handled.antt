@@ -8,8 +8,9 @@ use Rattle.script_lines.specs.declared.line.Line.{Line}
 use Rattle.script_lines.specs.Known.{Declared, nothing_declared}
 use Rattle.script_lines.specs.Script.{Says}
 use Rattle.script_lines.specs.declared.words.Dialect.TheVariants as dialects
+use Rattle.law_tp4_lawful.proofs.WorldStarts.{front_silent}
 use Rattle.script_bench.proofs.Claimed.{shows}
-use Rattle.script_world.proofs.Headline.{front_lawful, front_silent}
+use Rattle.script_world.proofs.Headline.{front_lawful}
 use Rattle.law_run.specs.Transcript.{ShowsSilence, ShowsWhatWasSubmitted}
 use Rattle.law_run.specs.World.{World, WorldRun, frozen_of, strays_of, titles_of, world_acts}
 

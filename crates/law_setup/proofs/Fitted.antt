@@ -1,9 +1,8 @@
 -- A set-up line that was read fits what was said before: what its fields ask of the names holds of the set-up, which knows the same.
-use Rattle.std.proofs.Common.{◌≡◌, ◌==◌, ◌&&◌, ℕ, zero, suc, ◌<◌, Bool, true, false, List, [], ◌∷◌, ◌++◌, length, map, Some, None, refl, sym, ◌∙◌, ap, subst, arith}
+use Rattle.std.proofs.Common.{◌≡◌, ◌==◌, ℕ, zero, suc, ◌<◌, Bool, true, false, List, [], ◌∷◌, ◌++◌, length, map, Some, None, refl, sym, ◌∙◌, ap, subst, arith}
 use Rattle.std.specs.Prelude.{◌||◌, find, if◌then◌else◌, nat_eq, slice_get, IsSome}
 use Rattle.std.specs.List.{AllByRecursion, list_any}
 use Rattle.std.specs.Cmp.Lexicographic.{pointwise}
-use Rattle.std.proofs.lemmas.Bool.Decides.{nat_tests}
 use Rattle.std.proofs.lemmas.List.{length-map}
 use Rattle.nsap.specs.Address.{is_same_system, system_part}
 use Rattle.nsap.specs.declared.port.Port.{Port}
@@ -11,9 +10,11 @@ use Rattle.nsap.proofs.AddressLemmas.{system_part-selector_of, is_same_system-De
 use Rattle.lan_step.specs.Rows.{same_snpa}
 use Rattle.clnp_route.specs.declared.table.RouteRow.{RouteRow}
 use Rattle.clnp_route.specs.Routes.{has_prefix}
+use Rattle.law_clnp_step.proofs.Joined.{same_numbers}
 use Rattle.script_lines.specs.Grammar.{many_from}
 use Rattle.script_lines.specs.Known.{Declared, KnownSystem, end_of as known_end, ports_of, routes_of, selectors_of, has_snpa, has_port, is_among, is_end}
 use Rattle.script_lines.specs.Names.{AreIntermediateSystems, IsEndSystem}
+use Rattle.law_clnp_net.proofs.Addresses.{turned}
 use Rattle.script_setup.specs.declared.relay.RelayLine.{RelayLine}
 use Rattle.script_setup.specs.SetUp.{System, SetUp, end_at, rows_at, port_on}
 use Rattle.law_setup.specs.Agreeing.{AreOne, shape_of, known_shape, Shape}
@@ -52,10 +53,6 @@ routes_one (x ∷ xs) (y ∷ ys) (suc n) one = routes_one xs ys n (others_one x 
 
 -- ---- titles
 
-same_octets : (xs : List ℕ) → pointwise nat_eq xs xs ≡ true
-same_octets [] = refl
-same_octets (x ∷ xs) = let here : nat_eq x x ≡ true = grind (arith, nat_tests) in rw here (same_octets xs)
-
 -- titles that are not equal are of two systems, since both end in the selector 0
 apart : (a b : List ℕ) → IsTitle a → IsTitle b → pointwise nat_eq a b ≡ false → is_same_system a b ≡ false
 apart a b ta tb differ = by (is_same_system a b) refl
@@ -69,7 +66,7 @@ apart a b ta tb differ = by (is_same_system a b) refl
         let whole_a : system_part a ++ 0 ∷ [] ≡ a = ap (λ (s : ℕ). system_part a ++ s ∷ []) (sym ta.entity) ∙ system_part-selector_of a (omega arith) in
         let whole_b : system_part b ++ 0 ∷ [] ≡ b = ap (λ (s : ℕ). system_part b ++ s ∷ []) (sym tb.entity) ∙ system_part-selector_of b (omega arith) in
         let same : a ≡ b = sym whole_a ∙ ap (λ (p : List ℕ). p ++ 0 ∷ []) parts ∙ whole_b in
-        let equal : pointwise nat_eq a b ≡ true = ap (λ (t : List ℕ). pointwise nat_eq a t) (sym same) ∙ same_octets a in
+        let equal : pointwise nat_eq a b ≡ true = ap (λ (t : List ℕ). pointwise nat_eq a t) (sym same) ∙ same_numbers a in
         absurd (cc)
 
 titles_apart : (xs : List System) (ys : List KnownSystem) (title : List ℕ) → map shape_of xs ≡ map known_shape ys → AllByRecursion IsTitle (map (λ (s : System). s.title) xs) → IsTitle title
@@ -116,12 +113,6 @@ port_fits names setup system lan snpa one read known listed limit = record {
 }
 
 -- ---- routes
-
-pub turned : (xs ys : List ℕ) → pointwise nat_eq xs ys ≡ pointwise nat_eq ys xs
-turned [] [] = refl
-turned [] (y ∷ ys) = refl
-turned (x ∷ xs) [] = refl
-turned (x ∷ xs) (y ∷ ys) = let here : nat_eq x y ≡ nat_eq y x = grind (arith, nat_tests) in rw here (ap (λ (b : Bool). nat_eq y x && b) (turned xs ys))
 
 no_prefix : (rows : List RouteRow) (prefix : List ℕ) → is_among (map (λ (row : RouteRow). row.prefix) rows) prefix ≡ false → has_prefix rows prefix ≡ false
 no_prefix rows prefix none = same rows ∙ none

@@ -1,6 +1,6 @@
 -- After a set-up line the names and the set-up know the same again, and a line that was read is one that the network has.
 use Rattle.std.proofs.Common.{◌≡◌, ◌==◌, ◌⊎◌, ℕ, zero, suc, ◌<◌, ◌≤◌, Bool, true, false, List, [], ◌∷◌, ◌++◌, length, map, Option, Some, None, Ok, inl, inr, refl, sym, ◌∙◌, ap, subst, arith, length-append, ◌||◌}
-use Rattle.std.specs.Prelude.{◌&&◌, ◌||◌, if◌then◌else◌, nat_eq, nat_lt, not, slice_get, slice_set, IsSome, option_map}
+use Rattle.std.specs.Prelude.{◌||◌, if◌then◌else◌, nat_eq, nat_lt, not, slice_get, slice_set, IsSome, option_map}
 use Rattle.std.specs.List.{AllByRecursion, list_any}
 use Rattle.std.specs.Cmp.Lexicographic.{pointwise, slice_cmp}
 use Rattle.std.specs.Ordering.{is_eq, match_ordering, nat_cmp}
@@ -35,7 +35,9 @@ use Rattle.script_lines.specs.Names.{NamesDeclared}
 use Rattle.script_lines.specs.Settings.{setting_or, with_setting}
 use Rattle.script_lines.specs.Table.{row_of}
 use Rattle.script_lines.proofs.LineNames.{line_named}
+use Rattle.script_lines.proofs.Places.{both as both_true}
 use Rattle.tp4_entity.specs.Association.{is_registered}
+use Rattle.law_clnp_net.proofs.Addresses.{turned}
 use Rattle.script_setup.specs.SetUp.{System, SetUp, end_at, hop_to, hop_title, port_on, routed, selected, selectors_at, selectors_of as registered_of, with_route, with_selector, with_time, set_up}
 use Rattle.law_setup.specs.Agreeing.{AreOne, Shape, shape_of, known_shape}
 use Rattle.script_bench.specs.steps.Came.{Came, Idle, Worded, came}
@@ -43,7 +45,7 @@ use Rattle.script_setup.specs.Fitting.{IsWell}
 use Rattle.law_setup.specs.Lines.{Kept, RunsAt}
 use Rattle.script_setup.proofs.Elements.{There, none_pass, there, set_keeps}
 use Rattle.law_setup.proofs.Fields.{agreed_size, all_fine}
-use Rattle.law_setup.proofs.Fitted.{as_many, path_fits, port_fits, relay_fits, route_fits, selector_fits, title_fits, turned}
+use Rattle.law_setup.proofs.Fitted.{as_many, path_fits, port_fits, relay_fits, route_fits, selector_fits, title_fits}
 use Rattle.script_setup.proofs.Ports.{number_is, numbers_differ, own_is, own_none, own_port, ports_push}
 use Rattle.law_setup.proofs.Relays.{relay_values, send_values}
 use Rattle.law_setup.proofs.Values.{lan_values, path_values, port_values, route_values, selector_values, set_values, title_values}
@@ -217,11 +219,6 @@ route_one names setup parts one known on =
     }
 
 -- ---- a selector
-
-both_true : (a b : Bool) → a && b ≡ true → (a ≡ true) × (b ≡ true)
-both_true true true is = (refl, refl)
-both_true true false is = absurd (cc)
-both_true false b is = absurd (cc)
 
 or_assoc : (a b c : Bool) → (a || (b || c)) ≡ ((a || b) || c)
 or_assoc true b c = refl

@@ -1,26 +1,19 @@
 -- The transport entities that a set-up makes: each is new, none has a clock ahead, and no end is due.
-use Rattle.std.proofs.Common.{◌≡◌, ℕ, zero, suc, ◌+◌, ◌≤◌, Bool, true, false, List, [], ◌∷◌, ◌++◌, map, Option, Some, None, refl, ◌∙◌, ap, subst, arith}
-use Rattle.std.specs.Prelude.{if◌then◌else◌, option_map, replicate, slice_get}
+use Rattle.std.proofs.Common.{◌≡◌, ℕ, suc, ◌+◌, ◌≤◌, Bool, true, false, List, [], ◌∷◌, map, Option, Some, refl, ◌∙◌, ap, subst, arith}
+use Rattle.std.specs.Prelude.{if◌then◌else◌, option_map, slice_get}
 use Rattle.std.proofs.lemmas.Option.{slice_get-map}
 use Rattle.std.specs.List.{AllByRecursion}
-use Rattle.tp4_conn.specs.End.{End}
+use Rattle.osi_base.proofs.Members.{all_both}
 use Rattle.tp4_entity.specs.Dues.{AreLater}
 use Rattle.tp4_entity.proofs.Dues.{later_none}
 use Rattle.tp4_world.specs.First.{IsNew}
 use Rattle.tp4_world.specs.declared.place.Placed.{Placed}
 use Rattle.tp4_world.specs.steps.Parts.{AreLaterAll}
 use Rattle.tp4_world.proofs.Later.{each_later}
+use Rattle.tp4_world.proofs.Shown.{nothing_stands}
 use Rattle.script_setup.specs.declared.transport.Limits.{Limits}
 use Rattle.script_setup.specs.SetUp.{System, SetUp, entity_with, timers_of, titles_of}
 use Rattle.law_setup.specs.Entities.{entities_from, entities_of, placed_at}
-
-no_ends : (count : ℕ) → AllByRecursion (λ (place : Option End). place ≡ None) (replicate count None)
-no_ends zero = tt
-no_ends (suc count) = (refl, no_ends count)
-
-all_behind : (P : Placed → Type 0) (xs ys : List Placed) → AllByRecursion P xs → AllByRecursion P ys → AllByRecursion P (xs ++ ys)
-all_behind P [] ys all others = others
-all_behind P (x ∷ xs) ys all others = (all.0, all_behind P xs ys all.1 others)
 
 -- what holds of the entity that an end system has
 module _ (P : Placed → Type 0) (life : ℕ) (limits : Limits) where
@@ -35,7 +28,7 @@ module _ (P : Placed → Type 0) (life : ℕ) (limits : Limits) where
       → AllByRecursion P (entities_from life limits number systems)
   of_systems number [] holds = tt
   of_systems number (system ∷ systems) holds =
-      all_behind P (placed_at life limits number system) (entities_from life limits (number + 1) systems)
+      all_both P (placed_at life limits number system) (entities_from life limits (number + 1) systems)
       (of_system number system (subst (λ (n : ℕ). P (record { system = n; entity = entity_with limits.references (timers_of life limits) system })) (omega arith) (holds 0 system refl)))
       (of_systems (number + 1) systems (λ place other is.
       subst (λ (n : ℕ). P (record { system = n; entity = entity_with limits.references (timers_of life limits) other })) (omega arith) (holds (suc place) other is)))
@@ -50,7 +43,7 @@ entities_new setup =
       title = system.title;
       title_is = subst (λ (n : ℕ). slice_get (titles_of setup) n ≡ Some system.title) (omega arith) (title_there setup.systems place system is);
       own = refl;
-      none = no_ends setup.limits.references;
+      none = nothing_stands setup.limits.references;
       never = refl;
     })
 

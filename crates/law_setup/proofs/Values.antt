@@ -25,6 +25,7 @@ use Rattle.script_lines.specs.Grammar.{next_column, count_fault, at_column, fiel
 use Rattle.script_lines.specs.Known.{Declared, no_parts, given_title, given_station, given_prefix, system_at, lan_at, path_at, has_port, has_station, is_among, routes_of, selectors_of}
 use Rattle.script_lines.specs.Reading.{passing, system_of, lan_of, port_lan_of, route_lan_of, end_system_of, new_name, new_selector, selector_of as given_selector, unset_key, value_of, path_kind_of, new_title, new_station, new_prefix, listed_names, intermediate, each_intermediate, hops_of}
 use Rattle.script_lines.specs.Settings.{key_of, least_of, most_of, keeps_order, with_setting}
+use Rattle.script_lines.proofs.Places.{both as both_true}
 use Rattle.law_clnp_net.specs.Standing.{IsNsap, IsSnpa}
 use Rattle.script_setup.specs.Fitting.{IsTitle}
 use Rattle.law_setup.proofs.InOctets.{station_octets, title_octets}
@@ -216,11 +217,6 @@ unfolding new_prefix
 prefix_read names system field prefix is =
     not_true (is_among (routes_of (slice_get names.systems system)) prefix)
     (then_by (prefix_of field) (λ p. not (is_among (routes_of (slice_get names.systems system)) p)) causes.Repeat prefix is).passes
-
-both_true : (a b : Bool) → a && b ≡ true → (a ≡ true) × (b ≡ true)
-both_true true true is = (refl, refl)
-both_true true false is = absurd (cc)
-both_true false b is = absurd (cc)
 
 route_lan_read : (names : Declared) (system next : ℕ) (field : List ℕ) (lan : ℕ) → route_lan_of names system next field ≡ Ok lan → (has_port names system lan ≡ true) × (has_port names next lan ≡ true)
 unfolding route_lan_of

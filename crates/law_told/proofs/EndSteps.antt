@@ -10,6 +10,7 @@ use Rattle.tpdu.specs.declared.tpdu.Format.{Format}
 use Rattle.tpdu.specs.declared.tpdu.Tpdu.{Tpdu}
 use Rattle.tpdu.specs.declared.tpdu.Tpdu.TheVariants.{Cr, Cc, Dr, Dc, Dt, Ed, Ak, Ea, Er}
 use Rattle.tpdu.proofs.Allowed.{first_is_allowed}
+use Rattle.tp4_number.proofs.Past.{if_kept}
 use Rattle.tp4_flow.specs.declared.step.EndEvent.{EndEvent}
 use Rattle.tp4_flow.specs.declared.step.Sent.{Sent}
 use Rattle.tp4_conn.specs.Calls.{IsCall, call_refusal}
@@ -17,22 +18,20 @@ use Rattle.tp4_conn.specs.End.{End, Moved, end_of}
 use Rattle.tp4_conn.specs.Making.{connected, on_cr}
 use Rattle.tp4_conn.specs.Matching.{is_match}
 use Rattle.tp4_conn.specs.Table.{Called, Took, Ticked, due, stepped}
-use Rattle.tp4_conn.specs.declared.call.CallRefusal.{CallRefusal}
 use Rattle.tp4_conn.specs.declared.call.ConnectRequest.{ConnectRequest}
 use Rattle.tp4_conn.specs.declared.call.UserCall.{UserCall}
-use Rattle.tp4_conn.proofs.Timely.{if_kept}
 use Rattle.tp4_entity.specs.Association.{answers, calls, is_called, is_registered, met, met_by, new_end, requested, unmatched}
 use Rattle.tp4_entity.specs.Entity.{Acted, Entity, at, end_at, moved, with_end}
 use Rattle.tp4_entity.specs.References.{least_free}
 use Rattle.tp4_entity.specs.Silence.{is_silent}
-use Rattle.tp4_entity.specs.Step.{call_of, calling, calling_end, connecting, end_refusal, first_due, kept_end, refused_by, restarted, ticking, ticking_at, ticking_end, user_refusal}
+use Rattle.tp4_entity.specs.Step.{call_of, calling, calling_end, connecting, end_refusal, first_due, kept_end, restarted, ticking, ticking_at, ticking_end, user_refusal}
 use Rattle.tp4_entity.specs.Unit.{EndsWith, Faulty, HearsUnit, Separates, TakesBy, TakesUnit, Whole, all_met, extended_of, followed}
 use Rattle.tp4_entity.proofs.PlaceLaws.{Place}
 use Rattle.tp4_entity.proofs.Restarts.{none_stands}
 use Rattle.tp4_entity.proofs.Standings.{free_least}
 use Rattle.law_tp4_proper.specs.Octets.{CallInOctets, EntityInOctets, HasOctets, IsPair}
 use Rattle.law_tp4_proper.specs.Rest.{AreProper}
-use Rattle.law_tp4_proper.proofs.Ends.{same_end, set_ends}
+use Rattle.law_tp4_proper.proofs.Ends.{not_refused, same_end, set_ends}
 use Rattle.law_tp4_proper.proofs.Readings.{first_octets}
 use Rattle.law_told.proofs.Sends.{AreToldBy, told_both}
 use Rattle.law_told.proofs.FaultPlaces.{fault_low}
@@ -71,17 +70,13 @@ connecting_told n now reference e request k = moved_told n (at now e) reference 
 
 -- ---- a call
 
-none_refused : (why : Option CallRefusal) → refused_by why ≡ None → why ≡ None
-none_refused None h = refl
-none_refused (Some why) h = absurd cc
-
 module _ (is_address : List ℕ → Bool) where
   called_end : (n : ℕ) (wrap : ℕ → ℕ → ℕ) (now reference : ℕ) (e : Entity) (call : UserCall) (place : Place) → end_at e reference ≡ place → end_refusal call place ≡ None → EntityInOctets is_address e → AreProper e
       → EntityFew n e → CallInOctets is_address call → IsCall call → ActedTold (after_call n call) (calling_end wrap now e reference call place)
   called_end n wrap now reference e call None is none i p k c fits = absurd cc
   called_end n wrap now reference e call (Some end) is none i p k c fits =
       moved_told (after_call n call) e reference (stepped wrap now end (Called call)) (λ other one there. stage_after n call one.stage (k other one there))
-      (called_told is_address n wrap now end call (i.ends reference end is) (p.ends reference end is).proper.size (k reference end is) c fits (none_refused (call_refusal end.base end.stage call) none))
+      (called_told is_address n wrap now end call (i.ends reference end is) (p.ends reference end is).proper.size (k reference end is) c fits (not_refused (call_refusal end.base end.stage call) none))
 
   pub calling_told : (n : ℕ) (wrap : ℕ → ℕ → ℕ) (now reference : ℕ) (e : Entity) (call : UserCall) → user_refusal e reference call ≡ None → EntityInOctets is_address e → AreProper e → EntityFew n e
       → CallInOctets is_address call → IsCall call → ActedTold (after_call n call) (calling wrap now e reference call)

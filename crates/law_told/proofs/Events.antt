@@ -10,6 +10,7 @@ use Rattle.osi_base.specs.declared.unit.Offered.{Offered}
 use Rattle.osi_base.specs.declared.unit.Offered.TheVariants.{Taken as WasTaken, Dropped}
 use Rattle.osi_base.specs.declared.unit.Up.{Up}
 use Rattle.osi_base.specs.declared.unit.Up.TheVariants.{Unit as Came, Note as Noted}
+use Rattle.osi_base.proofs.Members.{all_both}
 use Rattle.law_carrier_answers.specs.Answers.{AreOctets}
 use Rattle.script_lines.specs.Tags.{Tags}
 use Rattle.script_journal.specs.Injective.{AreTold, EachTold, IsTold, plain}
@@ -43,7 +44,7 @@ use Rattle.tp4_world.specs.Telling.{drop_events, ends_after, ends_with, event_fo
 use Rattle.tp4_world.specs.Total.{ComesInOctets}
 use Rattle.tp4_world.specs.World.{is_at, latest, latest_from}
 use Rattle.tp4_world.specs.declared.place.EndAt.{EndAt}
-use Rattle.law_tp4_proper.proofs.Octets.{all_both, octet_at}
+use Rattle.law_tp4_proper.proofs.Octets.{octet_at}
 use Rattle.law_told.proofs.Carriers.{IsToldUp}
 use Rattle.law_told.proofs.Sends.{AreToldBy, IsCause, IsToldWhat}
 use Rattle.tpdu.specs.declared.service.EndTold.TheVariants as tells

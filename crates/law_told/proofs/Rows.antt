@@ -11,6 +11,7 @@ use Rattle.tp4_number.specs.declared.got.Got.{Got}
 use Rattle.tp4_number.specs.declared.got.Got.TheVariants.{TooLarge}
 use Rattle.tp4_number.specs.declared.piece.Piece.{Piece}
 use Rattle.tp4_number.specs.Formats.{most_of}
+use Rattle.tp4_number.proofs.Past.{if_kept}
 use Rattle.tp4_flow.specs.ReceivingHalf.{Half, Received, dt_arrival, half_granted, taken_dt, taken_ed}
 use Rattle.tp4_flow.specs.declared.rules.Life.{Life as Ends}
 use Rattle.tp4_flow.specs.declared.rules.Life.TheVariants.{Goes, Exhausted}
@@ -47,7 +48,6 @@ use Rattle.tp4_conn.specs.Table.{Called, Ticked, Took, on_call, on_tick, on_tpdu
 use Rattle.tp4_conn.specs.UserWait.{user_wait_accept, user_wait_refuse, user_wait_tick}
 use Rattle.tp4_conn.specs.WaitBeforeClose.{wait_before_close_tick, wait_before_close_tpdu}
 use Rattle.tp4_conn.proofs.Sizes.{agreed_sized, read_sized}
-use Rattle.tp4_conn.proofs.Timely.{if_kept}
 use Rattle.law_tp4_proper.specs.Octets.{CallInOctets, EndInOctets, HalvesInOctets, HasOctets, IsPair, StageInOctets}
 use Rattle.law_tp4_proper.proofs.OctetSends.{granted_in}
 use Rattle.law_told.proofs.Sends.{AreToldBy, KeepsOctets, SenderFew, SendsTold, acknowledged_told, clock_few, done_told, dt_keeps, dt_told, ed_keeps, ed_told, few_later, fresh_keeps, grant_keeps, opened_told, submitted_told, ticked_told, told_both, urged_told}

@@ -1,10 +1,11 @@
 -- What the halves of an end keep so that what it tells can be read back from its text: the numbers that the number rule may hold back stay below a bound that
 -- grows with each unit that is handed over, and the pieces that are kept stand in octets.
-use Rattle.std.proofs.Common.{◌≡◌, ◌≤◌, ◌<◌, ℕ, zero, suc, ◌+◌, ◌-◌, ◌*◌, ◌∙◌, Bool, true, false, ◌||◌, ◌&&◌, ◌==◌, List, [], ◌∷◌, ◌++◌, length, drop, Option, Some, None, refl, arith, nat_lt, nat_le, if◌then◌else◌, length-append}
+use Rattle.std.proofs.Common.{◌≡◌, ◌≤◌, ◌<◌, ℕ, zero, suc, ◌+◌, ◌-◌, ◌*◌, Bool, true, false, ◌||◌, ◌&&◌, ◌==◌, List, [], ◌∷◌, ◌++◌, length, drop, Option, Some, None, refl, arith, nat_lt, if◌then◌else◌, length-append}
 use Rattle.std.specs.Prelude.{not, is_some, replicate, slice_set, ◌<◌, ℕ, ◌*◌, List, length}
 use Rattle.std.specs.List.{AllByRecursion, sum_by}
 use Rattle.std.proofs.lemmas.List.Sums.{sum_by-append, sum_by-cons}
 use Rattle.std.proofs.lemmas.Bool.{eqb-false, ltb-true}
+use Rattle.osi_base.proofs.Members.{all_both, all_drop}
 use Rattle.law_carrier_answers.specs.Answers.{AreOctets}
 use Rattle.tp4_number.specs.declared.got.Got.{Got}
 use Rattle.tp4_number.specs.declared.got.Got.TheVariants.{Kept}
@@ -12,6 +13,7 @@ use Rattle.tp4_number.specs.declared.piece.Piece.{Piece}
 use Rattle.tp4_number.specs.Number.{ahead, near, wire}
 use Rattle.tp4_number.specs.Receiver.{Arrived, Inbox, arrived_as, granted, in_order, judged}
 use Rattle.tp4_number.specs.Window.{Held, Joined, begun_by, is_larger, joined, placed}
+use Rattle.tp4_number.proofs.Past.{if_kept}
 use Rattle.tp4_flow.specs.ReceivingHalf.{Half, allowed, block_in as block_there, dt_arrival, half_after, half_granted, is_next, taken_dt, taken_ed}
 use Rattle.tp4_flow.specs.Told.{gots}
 use Rattle.tp4_flow.specs.declared.rules.Life.{Life}
@@ -19,10 +21,10 @@ use Rattle.tp4_flow.specs.declared.rules.Life.TheVariants.{Goes, Exhausted}
 use Rattle.tp4_flow.specs.declared.step.EndEvent.{EndEvent}
 use Rattle.tp4_flow.specs.declared.step.Sent.{Sent}
 use Rattle.tp4_sending.specs.SendingHalf.{FlowSender, Sendings, UrgentSender, acknowledged, acknowledged_to, at, before, block_in, dts_of, has_next, is_noted, is_outstanding, is_taken, is_urgent, life_of, new_sends, normals, normals_where, nothing, one_urgent, opened, resends, resends_urgent, resends_urgent_as, rule_allows, sent_normal, submitted, then_sends, ticked, ticked_as, urged, urgent_done}
-use Rattle.tp4_sending.specs.Pieces.{Queue, count_in, end_of, freed_by, is_due}
+use Rattle.tp4_sending.specs.Pieces.{count_in, end_of, is_due}
 use Rattle.tp4_sending.specs.declared.tries.Tries.{Tries}
-use Rattle.tp4_conn.proofs.Timely.{if_kept}
-use Rattle.law_tp4_proper.proofs.Octets.{all_both, all_drop, octets_both}
+use Rattle.tp4_sending.proofs.Totals.{freed_end}
+use Rattle.law_tp4_proper.proofs.Octets.{octets_both}
 use Rattle.tpdu.specs.declared.service.GoneCause.{GoneCause}
 use Rattle.tpdu.specs.declared.service.GoneCause.TheVariants as gone
 use Rattle.tp4_flow.specs.declared.step.What.{What}
@@ -75,14 +77,6 @@ sums size units unit =
     let both = sum_by-append (count_in size) units (unit ∷ []) in
     let one = sum_by-cons (count_in size) unit [] in
     omega (arith, both, one)
-
-freed_end : (size n first : ℕ) (units : List (List ℕ)) → end_of size (freed_by size n first units) ≡ first + sum_by (count_in size) units
-freed_end size n first [] = refl
-freed_end size n first (unit ∷ units) =
-    let more = sum_by-cons (count_in size) unit units in
-    if_kept (λ (q : Queue). end_of size q ≡ first + sum_by (count_in size) (unit ∷ units)) (nat_le (first + count_in size unit) n) _ _
-    (λ _. freed_end size n (first + count_in size unit) units ∙ omega (arith, more))
-    (λ _. refl)
 
 -- ---- a sending half
 

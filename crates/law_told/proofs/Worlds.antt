@@ -18,6 +18,7 @@ use Rattle.osi_base.specs.declared.unit.Wish.{Wish}
 use Rattle.osi_base.specs.Link.{Link}
 use Rattle.osi_base.specs.Calls.{Call, Chain, Choose, Inject, Keeps, NextUp, Offer, Tick}
 use Rattle.osi_base.specs.Gathering.{Gathers, takings}
+use Rattle.osi_base.proofs.Members.{all_both}
 use Rattle.law_carrier_answers.specs.Answers.{AreOctets, CanBeAsked, MayBeOffered, asked_of}
 use Rattle.script_lines.specs.Tags.{Tags}
 use Rattle.script_lines.specs.declared.line.Line.{Line}
@@ -34,11 +35,11 @@ use Rattle.script_journal.specs.Told.{cells_of}
 use Rattle.net_world.specs.Told.{picked_event, refusal, sent_event, told}
 use Rattle.tpdu.specs.Writing.{IsWritten, is_summed}
 use Rattle.tpdu.proofs.Spellings.{one_spelling}
+use Rattle.tp4_number.proofs.Past.{if_kept}
 use Rattle.tp4_flow.specs.declared.step.Sent.{Sent}
 use Rattle.tp4_conn.specs.Calls.{IsCall}
 use Rattle.tp4_conn.specs.End.{IsSized}
 use Rattle.tp4_conn.specs.Proper.{AreSendable, IsProperCall, IsSendable}
-use Rattle.tp4_conn.proofs.Timely.{if_kept}
 use Rattle.tp4_conn.specs.declared.call.ConnectRequest.{ConnectRequest}
 use Rattle.tp4_conn.specs.declared.call.UserCall.{UserCall}
 use Rattle.tp4_conn.specs.declared.call.UserCall.TheVariants as asks
@@ -54,7 +55,6 @@ use Rattle.law_tp4_proper.specs.Rest.{AreInTime, AreProper, IsAtRest, IsProperSt
 use Rattle.law_tp4_proper.proofs.Ends.{calling_rests, connecting_rests, new_rests, ticking_proper, waits}
 use Rattle.law_tp4_proper.proofs.Heards.{restarting_in, taken_in, taken_rests}
 use Rattle.law_tp4_proper.proofs.OctetEnds.{calling_in, connecting_in, ticking_in}
-use Rattle.law_tp4_proper.proofs.Octets.{all_both}
 use Rattle.law_tp4_proper.proofs.Writings.{some_writing}
 use Rattle.tp4_world.specs.Run.{Acts, Arrives, BeginsAt, Calls, CallsAt, CallsBy, CallsEnd, ConnectsBy, Delivers, HearsAll, HearsIf, Injects, IsRefused, NoneDue, NoneLeft, OneDue, OneMore, Restarts, RunsLine, SendsRaw, SendsTpdu, SendsTpdus, Settles, Starts, Ticks, TicksAll, TicksEntity, TooMany, is_for, transport_address, transport_wish}
 use Rattle.tp4_world.specs.Ended.{has_ended}

@@ -4,6 +4,7 @@ use Rattle.std.specs.Prelude.{slice_get, Some}
 use Rattle.std.specs.List.{AllByRecursion}
 use Rattle.osi_base.specs.Link.{Link}
 use Rattle.osi_base.specs.Calls.{Call, Keeps}
+use Rattle.osi_base.proofs.Members.{all_both}
 use Rattle.law_clnp_net.specs.Standing.{is_nsap}
 use Rattle.law_clnp_net.proofs.answered.Carrying.{nsap_passes}
 use Rattle.line_loop.specs.Lines.{most_lines}
@@ -33,7 +34,6 @@ use Rattle.tp4_world.specs.Run.{transport_address}
 use Rattle.law_datagram_run.specs.Datagrams.{DatagramRun, RunsDatagrams, RunsLine, StartsDatagrams, cl_play, request_for}
 use Rattle.law_datagram_run.specs.Users.{users_at, users_from, users_of}
 use Rattle.law_datagram_run.proofs.Played.{FitsRun, IsListed, MayRun, cl_going, cl_laws}
-use Rattle.law_tp4_proper.proofs.Octets.{all_both}
 use Rattle.law_told.specs.Reading.{IsLegible}
 use Rattle.law_told.proofs.Events.{EachFrom, each_of}
 use Rattle.law_told.proofs.Numbers.{HasNumber, line_number}

@@ -1,31 +1,11 @@
 -- What is read of a UD in octets is in octets, and so is a UD that is written of octets.
-use Rattle.std.proofs.Common.{◌≡◌, ◌<◌, ℕ, ◌+◌, ◌==◌, Bool, true, false, List, [], ◌∷◌, ◌++◌, length, Option, Some, None, sym, subst, arith, length-append}
-use Rattle.std.specs.Prelude.{if◌then◌else◌}
-use Rattle.std.specs.Option.{option_or}
-use Rattle.pdu_parts.specs.Parameter.{Parameter, spelled}
+use Rattle.std.proofs.Common.{◌<◌, ℕ, ◌+◌, List, [], ◌∷◌, ◌++◌, length, sym, subst, arith, length-append}
+use Rattle.pdu_parts.specs.Parameter.{spelled}
 use Rattle.law_carrier_answers.specs.Answers.{AreOctets}
-use Rattle.tpdu.specs.Parameters.{last_value}
 use Rattle.cltp.specs.Ud.{IsSelector, IsUd, Ud}
 use Rattle.cltp.specs.Writing.{IsWritten, parameters_for}
-use Rattle.law_tp4_proper.proofs.Octets.{octets_back, octets_front}
-
-abbrev Holds : Option (List ℕ) → Type 0
-Holds None = Unit {0}
-Holds (Some value) = AreOctets value
-
-either_holds : (one other : Option (List ℕ)) → Holds one → Holds other → Holds (option_or one other)
-either_holds None other h k = k
-either_holds (Some value) other h k = h
-
-last_holds : (code : ℕ) (ps : List Parameter) → AreOctets (spelled ps) → Holds (last_value code ps)
-last_holds code [] h = tt
-last_holds code (p ∷ ps) h =
-    let value : AreOctets p.value = octets_front p.value (spelled ps) h.1.1 in
-    either_holds (last_value code ps) _ (last_holds code ps (octets_back p.value (spelled ps) h.1.1)) (here (p.code == code) value)
-  where
-    here : (b : Bool) → AreOctets p.value → Holds (if b then Some p.value else None)
-    here true v = v
-    here false v = tt
+use Rattle.law_tp4_proper.proofs.Octets.{octets_back, octets_both, octets_front}
+use Rattle.law_tp4_proper.proofs.Readings.{Holds, last_holds}
 
 -- the selectors and the data
 pub record UdInOctets (ud : Ud) : Type 0 where
@@ -42,10 +22,6 @@ read_octets octets ud h is =
       to = subst Holds is.to (last_holds 0xC2 is.parameters fields);
       octets = octets_back (spelled is.parameters) ud.octets all.1.1;
     }
-
-octets_both : (xs ys : List ℕ) → AreOctets xs → AreOctets ys → AreOctets (xs ++ ys)
-octets_both [] ys h k = k
-octets_both (x ∷ xs) ys h k = (h.0, octets_both xs ys h.1 k)
 
 module _ (ud : Ud) (from : IsSelector ud.from) (to : IsSelector ud.to) (h : UdInOctets ud) where
   module _ (first second : ℕ) (one : first < 256) (other : second < 256) where

@@ -14,6 +14,7 @@ use Rattle.osi_base.specs.declared.unit.Up.{Up}
 use Rattle.osi_base.specs.declared.unit.Up.TheVariants.{Unit as Came, Note as Noted}
 use Rattle.osi_base.specs.Link.{Link}
 use Rattle.osi_base.specs.Calls.{Call, Choose, Keeps, Offer, Tick}
+use Rattle.osi_base.proofs.Members.{all_both}
 use Rattle.law_carrier_answers.specs.Answers.{AreOctets, CanBeAsked, MayBeOffered, asked_of}
 use Rattle.script_lines.specs.Tags.{Tags}
 use Rattle.script_journal.specs.declared.cause.Refused.TheVariants.{TooLong}
@@ -37,7 +38,6 @@ use Rattle.cltp.specs.Total.{CanRun}
 use Rattle.script_setup.proofs.Elements.{find_all}
 use Rattle.tp4_number.specs.Number.{wire}
 use Rattle.tp4_world.specs.Total.{ComesInOctets}
-use Rattle.law_tp4_proper.proofs.Octets.{all_both}
 use Rattle.law_told.proofs.Carriers.{Tells}
 use Rattle.law_told.proofs.Events.{IsToldEvent, octets_bytes, refusal_told}
 use Rattle.law_told.proofs.Worlds.{UpSo, gathers_so, picked_told, ups_events}

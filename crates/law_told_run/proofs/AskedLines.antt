@@ -1,12 +1,6 @@
 -- What the lines of a script ask stands in its journal: until the start there is no event, at the start none by which a user asks, and then each line has
 -- what it asks.
-use Rattle.std.proofs.Common.{◌≡◌, ◌∙◌, ℕ, Bool, true, false, List, [], ◌∷◌, ◌++◌, refl, sym, ap, subst, if◌then◌else◌}
-use Rattle.std.specs.Prelude.{◌==◌}
-use Rattle.nsap.specs.Address.{selector_of}
-use Rattle.osi_base.specs.declared.note.Note.{Note}
-use Rattle.osi_base.specs.declared.unit.Up.{Up}
-use Rattle.osi_base.specs.declared.unit.Up.TheVariants.{Unit as Came, Note as Noted}
-use Rattle.net_world.specs.Told.{told}
+use Rattle.std.proofs.Common.{◌≡◌, ◌∙◌, ℕ, Bool, true, false, List, [], ◌∷◌, ◌++◌, sym, ap, subst}
 use Rattle.script_journal.specs.declared.event.Event.{Event}
 use Rattle.script_journal.specs.declared.event.Event.TheVariants as events
 use Rattle.script_lines.specs.declared.line.Line.{Line}
@@ -17,22 +11,10 @@ use Rattle.script_world.specs.declared.play.World.TheVariants.{SettingUp}
 use Rattle.law_setup.proofs.Made.{net_law}
 use Rattle.tp4_number.specs.Number.{wire}
 use Rattle.tp4_world.specs.Asked.{AreAsked, IsAsked, asked_in}
-use Rattle.tp4_world.proofs.Lined.{tells_asked}
+use Rattle.tp4_world.proofs.Lined.{tells_asked, told_none}
 use Rattle.law_run.specs.World.{NetDoes, SetsUp, StartsUp, World, WorldRun, WorldRuns, is_start, link_of_net, titles_of}
 use Rattle.law_run.proofs.WorldLaws.{started}
 use Rattle.law_run.proofs.Lawful.{runs_on}
-
-note_asks : (note : Note) (more : List Event) → asked_in more ≡ [] → asked_in (events.Net note ∷ more) ≡ []
-note_asks note more none = none
-
-shown_asks : (test : Bool) (system : ℕ) (from octets : List ℕ) (more : List Event) → asked_in more ≡ [] → asked_in ((if test then events.Unit system from octets ∷ [] else []) ++ more) ≡ []
-shown_asks true system from octets more none = none
-shown_asks false system from octets more none = none
-
-ups_ask : (ups : List (Up (List ℕ))) → asked_in (told ups) ≡ []
-ups_ask [] = refl
-ups_ask (Noted note ∷ ups) = note_asks note (told ups) (ups_ask ups)
-ups_ask (Came arrival ∷ ups) = shown_asks (selector_of arrival.unit.to == 2) arrival.system arrival.unit.from arrival.unit.octets (told ups) (ups_ask ups)
 
 -- ---- a line of the set-up
 
@@ -70,7 +52,7 @@ start_asked setup line script made rest journal mid last of starts runs is =
     let h = started setup made mid starts in
     let on = runs_on (titles_said setup) (timers_of setup.life setup.limits) h.1 script rest last (subst (λ (w : World). WorldRuns w script rest last) h.4 runs) in
     let titles : titles_of last ≡ titles_said setup = ap (λ (w : World). titles_of w) on.is in
-    let none : asked_in made ≡ [] = ap asked_in h.3.made_is ∙ ups_ask h.3.ups in
+    let none : asked_in made ≡ [] = ap asked_in h.3.made_is ∙ told_none h.3.ups in
     let others : AreAsked (titles_said setup) script rest = tells_asked link_of_net NetDoes net_law wire (titles_said setup) h.1 script rest on.end on.runs in
     (made, rest, is, idle_line (titles_of last) line made of none, subst (λ (t : List (List ℕ)). AreAsked t script rest) (sym titles) others)
 

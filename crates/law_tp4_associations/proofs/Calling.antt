@@ -25,12 +25,13 @@ use Rattle.law_tp4_pair.proofs.Resting.{accepts_stands}
 use Rattle.law_tp4_associations.specs.Association.{Association}
 use Rattle.law_tp4_associations.specs.Phase.{AreAll, AreParting, Answered, Asking, Asks, IsAsking, IsConfirming, IsFrozen, IsInUse, IsIndicated, IsPaired, IsRefusal, Late, Leaving, Over, Paired, Phase, Refused, Rejected, Waiting, WillFreeze}
 use Rattle.law_tp4_associations.specs.Standing.{IsAssociation}
-use Rattle.law_tp4_associations.proofs.Handing.{both_frozen, called_moved, caller_moved, not_agreed, paired_held}
+use Rattle.law_tp4_associations.proofs.Handing.{both_frozen, called_moved, caller_moved, paired_held}
 use Rattle.law_tp4_associations.proofs.Holding.{held_on, held_so}
 use Rattle.law_tp4_associations.proofs.Pairing.{GoesOn, Pairs, Parts, called_asks, calling_asks, paired_no_asking}
 use Rattle.law_tp4_associations.proofs.Phases.{frozen_called, late_held}
 use Rattle.law_tp4_associations.proofs.Places.{same_some}
 use Rattle.law_tp4_associations.proofs.Waiting.{may_accept}
+use Rattle.law_tp4_associations.proofs.Clocked.{not_agreed}
 
 -- a frozen end refuses each call
 frozen_refuses : {A : Type 0} (b : EndRecord) (stage : StateData) (call : UserCall) → IsFrozen stage → call_refusal b stage call ≡ None → A

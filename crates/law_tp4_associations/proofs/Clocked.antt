@@ -171,7 +171,7 @@ frozen_ticked true now b when held = record {
 
 -- ---- two ends that have just frozen or were frozen, the user of one of which had not answered
 
-not_agreed : (agreed : Option Options) → agreed ≡ None → sum_agreed agreed ≡ true → ⊥
+pub not_agreed : (agreed : Option Options) → agreed ≡ None → sum_agreed agreed ≡ true → ⊥
 not_agreed None e is = cc is
 not_agreed (Some o) e is = cc e
 

@@ -7,6 +7,7 @@ use Rattle.tpdu.specs.Values.{TpduAndSum}
 use Rattle.tpdu.specs.Writing.{kind_for}
 use Rattle.tpdu.specs.declared.tpdu.Tpdu.{Tpdu}
 use Rattle.tpdu.specs.declared.tpdu.Tpdu.TheVariants as wires
+use Rattle.tp4_number.proofs.Past.{if_kept}
 use Rattle.tp4_flow.specs.declared.step.EndEvent.{EndEvent}
 use Rattle.tp4_flow.specs.declared.step.What.{What}
 use Rattle.tp4_flow.specs.declared.step.What.TheVariants as whats
@@ -17,7 +18,6 @@ use Rattle.tp4_conn.specs.End.{End, Moved, end_of}
 use Rattle.tp4_conn.specs.Making.{called_end, connected, indicated}
 use Rattle.tp4_conn.specs.Matching.{is_match}
 use Rattle.tp4_conn.specs.Table.{Called, Ticked, Took, due, stepped}
-use Rattle.tp4_conn.proofs.Timely.{if_kept}
 use Rattle.tp4_entity.specs.Association.{is_called, is_registered, met, met_at, met_by, new_end, requested, unmatched}
 use Rattle.tp4_entity.specs.Entity.{Acted, Entity, at, end_at, there, with_end}
 use Rattle.tp4_entity.specs.References.{is_free_place, least_free}
@@ -29,30 +29,22 @@ use Rattle.tp4_world.specs.Telling.{ends_after, ends_with}
 use Rattle.tp4_world.specs.World.{entity_at, with_entity}
 use Rattle.tp4_world.specs.declared.place.EndAt.{EndAt}
 use Rattle.tp4_world.specs.declared.place.Placed.{Placed}
+use Rattle.tp4_world.proofs.Entities.{with_found}
 use Rattle.law_tp4_lawful.specs.Own.{IsEndOf}
 use Rattle.law_tp4_lawful.proofs.ActsRows.{IsRowOf, row_of}
 use Rattle.law_tp4_lawful.proofs.ActsTold.{ends_stay}
-use Rattle.law_tp4_lawful.proofs.Frames.{entity_set}
 use Rattle.law_tp4_lawful.proofs.MakesPlaces.{at_other, at_same}
 use Rattle.law_tp4_lawful.proofs.Silence.{Seen}
-use Rattle.law_tp4_lawful.proofs.SilenceEntities.{AreOf}
+use Rattle.law_tp4_lawful.proofs.SilenceEntities.{AreOf, ends_append, kept_row}
 use Rattle.law_tp4_lawful.proofs.WorldPlaces.{with_again}
 use Rattle.law_tp4_associations.proofs.FrozenReferences.{row_place, tick_place}
 use Rattle.law_tp4_associations.proofs.HeldPlaces.{IsLike, Passes, Rests, kept_like, like_same, like_then, made_passes, passes_then, rests_pass, silent_like, vacant_new, vacant_others, vacant_same, vacant_there, vacant_was}
-
-ends_append : (ends : List EndAt) (system : ℕ) (xs ys : List EndEvent) → ends_after ends system (xs ++ ys) ≡ ends_after (ends_after ends system xs) system ys
-ends_append ends system [] ys = refl
-ends_append ends system (x ∷ xs) ys = ends_append (ends_with ends system x x.what) system xs ys
 
 only_end : (reference : ℕ) (one end : End) → IsEndOf reference one → Some one ≡ Some end → IsEndOf reference end
 only_end reference one end is h = let same : one ≡ end = cc h in subst (IsEndOf reference) same is
 
 row_end : (reference : ℕ) (m : Moved) → IsRowOf reference m → (end : End) → Some (end_of m) ≡ Some end → IsEndOf reference end
 row_end reference m row end h = only_end reference (end_of m) end (row.base, row.stage) h
-
-kept_row : (reference : ℕ) (m : Moved) (next : Option ℕ) → IsRowOf reference m → (end : End) → kept_end m next ≡ Some end → IsEndOf reference end
-kept_row reference m None row end h = absurd (cc h)
-kept_row reference m (Some tick) row end h = row_end reference m row end h
 
 -- each end is of the reference at which it stands, and none stands while the entity is silent
 pub record IsFit (now : ℕ) (e : Entity) : Type 0 where
@@ -145,7 +137,7 @@ module _ (system now : ℕ) where
         (let first : Seen = seen entities ends in
         let middle : Seen = seen (with_entity entities system mid) (ends_after ends system xs) in
         let rest : Passes middle (seen (with_entity (with_entity entities system mid) system new) (ends_after (ends_after ends system xs) system ys)) =
-        two.goes (with_entity entities system mid) (ends_after ends system xs) mid (entity_set entities system was mid is) (itself mid) in
+        two.goes (with_entity entities system mid) (ends_after ends system xs) mid (with_found entities system was mid is) (itself mid) in
         passes_then first middle (seen (with_entity entities system new) (ends_after ends system (xs ++ ys))) (one.goes entities ends was is same)
         (subst (λ (es : List EndAt). Passes middle (seen (with_entity entities system new) es)) (sym (ends_append ends system xs ys))
         (subst (λ (ps : List Placed). Passes middle (seen ps (ends_after (ends_after ends system xs) system ys))) (with_again entities system mid new) rest)));

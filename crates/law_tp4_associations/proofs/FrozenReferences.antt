@@ -3,7 +3,6 @@
 use Rattle.std.proofs.Common.{◌≡◌, ℕ, ◌+◌, nat_lt, Bool, true, false, cond, Option, Some, None, refl, sym, ◌∙◌, ap, arith}
 use Rattle.std.proofs.lemmas.Bool.{le-ltb}
 use Rattle.tp4_sending.specs.SendingHalf.{due_of}
-use Rattle.tp4_sending.specs.Pieces.{sooner}
 use Rattle.tp4_conn.specs.declared.end_record.EndRecord.{EndRecord}
 use Rattle.tp4_conn.specs.declared.states.StateData.{StateData}
 use Rattle.tp4_conn.specs.declared.states.StateData.TheVariants as stages
@@ -12,12 +11,13 @@ use Rattle.tp4_conn.specs.End.{End, Moved, end_of, frozen_for}
 use Rattle.tp4_conn.specs.Table.{Event, Ticked, at as at_tick, due, stepped}
 use Rattle.tp4_entity.specs.References.{is_free_place, was_frozen}
 use Rattle.tp4_entity.specs.Step.{kept_end}
+use Rattle.tp4_entity.proofs.Standings.{sooner_some}
 use Rattle.law_tp4_rows.specs.Leaving.{FreezesAt, GoesOn}
 use Rattle.law_tp4_rows.proofs.Leaving.{row_leaves, ticks_same}
 
 -- ---- the reference
 
-not_yet : (now ticks : ℕ) (stage : StateData) → FreezesAt now stage → was_frozen now ticks stage ≡ false
+pub not_yet : (now ticks : ℕ) (stage : StateData) → FreezesAt now stage → was_frozen now ticks stage ≡ false
 not_yet now ticks (stages.Frozen when) at = le-ltb (when + ticks) now (omega (arith, at))
 not_yet now ticks other at = refl
 
@@ -34,11 +34,7 @@ row_place wrap now end event = let l = row_leaves wrap now end event in leaves_p
 
 -- ---- an end that is taken out
 
-sooner_some : (one : ℕ) (other : Option ℕ) → sooner (Some one) other ≡ None → ⊥
-sooner_some one None h = cc h
-sooner_some one (Some two) h = cc h
-
-over : (b : EndRecord) (stage : StateData) → due b stage ≡ None → was_frozen b.clock (frozen_for b.timers) stage ≡ true
+pub over : (b : EndRecord) (stage : StateData) → due b stage ≡ None → was_frozen b.clock (frozen_for b.timers) stage ≡ true
 over b (stages.Opened o) h = absurd (sooner_some _ (due_of o.halves.sending) h)
 over b (stages.Frozen when) h = by_test (nat_lt (when + frozen_for b.timers) b.clock) refl h
   where

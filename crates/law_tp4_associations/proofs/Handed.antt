@@ -3,6 +3,7 @@ use Rattle.std.proofs.Common.{◌≡◌, ◌⊎◌, ℕ, ◌-◌, ◌<◌, ◌==
 use Rattle.std.specs.List.{AllByRecursion, list_any}
 use Rattle.std.specs.Cmp.Lexicographic.{pointwise, same_text}
 use Rattle.std.proofs.lemmas.Bool.{cases_eq, eqb-true}
+use Rattle.osi_base.proofs.Members.{all_both}
 use Rattle.tp4_flow.specs.declared.step.Sent.{Sent}
 use Rattle.tp4_number.specs.Number.{whole}
 use Rattle.tp4_conn.specs.declared.states.StateData.{StateData}
@@ -17,6 +18,7 @@ use Rattle.tp4_entity.specs.Entity.{Acted, Entity, at, end_at, moved, there, wit
 use Rattle.tp4_entity.specs.References.{is_free_place, least_free, was_frozen}
 use Rattle.tp4_world.specs.World.{entity_at, with_entity}
 use Rattle.tp4_world.specs.declared.place.Placed.{Placed}
+use Rattle.tp4_world.proofs.Entities.{with_found}
 use Rattle.law_tp4_associations.specs.Association.{Association, Posted, cleared, party, post, system_of, waiting, with_party}
 use Rattle.law_tp4_associations.specs.Handing.{Aside, Begins, Hands, IsBetweenOpen, Taken, Takes, TellsOfNoEnd}
 use Rattle.law_tp4_associations.specs.Laws.{Handed}
@@ -27,7 +29,7 @@ use Rattle.law_tp4_associations.proofs.Keeping.{row_keeps}
 use Rattle.law_tp4_associations.proofs.Meeting.{stands_among}
 use Rattle.law_tp4_associations.proofs.Phases.{Gone, IsGone, Stays, caller_stands, cleared_on, gone_or_not, has_caller, over_where_free}
 use Rattle.law_tp4_associations.proofs.Places.{IsPut, Placing, clear_placing, cleared_got, cleared_system, get_map, get_other, get_same, map_count, map_got, put_placing, same_some, set_count, with_system}
-use Rattle.law_tp4_associations.proofs.Spots.{end_is, entity_other, entity_set, from_spot, least_is, spot, spot_at, spot_put, spot_same, stands_above, stands_some, to_spot, waiting_apart, waiting_behind, waiting_first, waiting_post, waiting_then}
+use Rattle.law_tp4_associations.proofs.Spots.{end_is, entity_other, from_spot, least_is, spot, spot_at, spot_put, spot_same, stands_above, stands_some, to_spot, waiting_apart, waiting_behind, waiting_first, waiting_post, waiting_then}
 
 pub placing_of : (timers : Timers) (own : ℕ → List ℕ) (now : ℕ) (entities : List Placed) (all : List Association) (queue : List Posted) → Standing timers own now entities all queue → Placing (spot entities) all
 placing_of timers own now entities all queue st = record {
@@ -43,14 +45,10 @@ placing_same old new all same p = record {
   apart = p.apart;
 }
 
-set_back : {A : Type 0} (l : List A) (k : ℕ) (x : A) → slice_get l k ≡ Some x → slice_set l k x ≡ l
+pub set_back : {A : Type 0} (l : List A) (k : ℕ) (x : A) → slice_get l k ≡ Some x → slice_set l k x ≡ l
 set_back [] k x is = refl
 set_back (y ∷ l) zero x is = ap (λ (z : _). z ∷ l) (sym (same_some y x is))
 set_back (y ∷ l) (suc k) x is = ap (λ (m : List _). y ∷ m) (set_back l k x is)
-
-pub all_then : {A : Type 0} (P : A → Type 0) (a b : List A) → AllByRecursion P a → AllByRecursion P b → AllByRecursion P (a ++ b)
-all_then P [] b p q = q
-all_then P (x ∷ a) b p q = (p.0, all_then P a b p.1 q)
 
 pub all_post : (count k : ℕ) (by : Bool) (l : List Sent) → k < count → AllByRecursion (λ (posted : Posted). posted.of < count) (post k by l)
 all_post count k by [] low = tt
@@ -77,7 +75,7 @@ module _ (timers : Timers) (own : ℕ → List ℕ) (entities : List Placed) (s 
       by : (t ≡ s) ⊎ (t ≡ s → ⊥) → Was t x
       by (inr unlike) = record { old = x; is_old = sym (entity_other entities s t f unlike) ∙ at; same_own = refl; same_timers = refl }
       by (inl same) =
-          let x_is : f ≡ x = same_some f x (sym (entity_set entities s e f is) ∙ ap (entity_at (with_entity entities s f)) (sym same) ∙ at) in
+          let x_is : f ≡ x = same_some f x (sym (with_found entities s e f is) ∙ ap (entity_at (with_entity entities s f)) (sym same) ∙ at) in
           record { old = e; is_old = ap (entity_at entities) same ∙ is; same_own = ap (λ (y : Entity). y.own) (sym x_is) ∙ own_is; same_timers = ap (λ (y : Entity). y.timers) (sym x_is) ∙ timers_is }
 
   pub systems_on : AreSystems timers own (with_entity entities s f)
@@ -94,7 +92,7 @@ module _ (timers : Timers) (own : ℕ → List ℕ) (entities : List Placed) (s 
     where
       by : (t ≡ s) ⊎ (t ≡ s → ⊥) → (y : Entity) × (entity_at (with_entity entities s f) t ≡ Some y)
       by (inr unlike) = (x, entity_other entities s t f unlike ∙ at)
-      by (inl same) = (f, ap (entity_at (with_entity entities s f)) same ∙ entity_set entities s e f is)
+      by (inl same) = (f, ap (entity_at (with_entity entities s f)) same ∙ with_found entities s e f is)
 
   pub standing_on : (now : ℕ) (all : List Association) (queue : List Posted) → Placing (spot (with_entity entities s f)) all
       → ((k : ℕ) (a : Association) → slice_get all k ≡ Some a → IsAssociation timers own now a (waiting k true queue) (waiting k false queue))
@@ -165,7 +163,7 @@ module _ (timers : Timers) (own : ℕ → List ℕ) (now : ℕ) (entities : List
   posted_on : (acted : Acted) (after : List Association) → length after ≡ length all → AllByRecursion (λ (p : Posted). p.of < length after) (queue_after acted)
   posted_on acted after same =
       subst (λ (n : ℕ). AllByRecursion (λ (p : Posted). p.of < n) (queue_after acted)) (sym same)
-      (all_then (λ (p : Posted). p.of < length all) rest (post k (not by) acted.tpdus) st.posted.1 (all_post (length all) k (not by) acted.tpdus (within_list all k a is)))
+      (all_both (λ (p : Posted). p.of < length all) rest (post k (not by) acted.tpdus) st.posted.1 (all_post (length all) k (not by) acted.tpdus (within_list all k a is)))
 
   abbrev Handed_so : Acted → Type 0
   Handed_so acted = Hands timers own now entities all posted rest e a acted

@@ -22,7 +22,7 @@ use Rattle.tp4_conn.specs.Agreeing.{confirm, extra_of, proposed_by, request}
 use Rattle.tp4_conn.specs.End.{End, IsSame, IsSized, Moved, agreed_sum, closing, confirms, end_of, send}
 use Rattle.tp4_conn.specs.CrWait.{cr_wait_tpdu}
 use Rattle.tp4_conn.specs.WaitBeforeClose.{wait_before_close_tpdu}
-use Rattle.tp4_conn.specs.Matching.{fits, sum_agreed, wants_sum}
+use Rattle.tp4_conn.specs.Matching.{fits, wants_sum}
 use Rattle.tp4_conn.specs.Making.{called_end, indicated, on_cr}
 use Rattle.tp4_conn.specs.Table.{Event, Took, at, on_tpdu, stepped, takes, untaken}
 use Rattle.tp4_entity.specs.Association.{calls, is_called, met, refusal, requested}
@@ -43,6 +43,7 @@ use Rattle.law_tp4_associations.proofs.Keeping.{row_keeps, row_partner}
 use Rattle.law_tp4_associations.proofs.Pairing.{GoesOn, Pairs, Parts, back_goes, forth_goes, paired_no_asking}
 use Rattle.law_tp4_associations.proofs.Parting.{parting_has_left, parts_no_asking}
 use Rattle.law_tp4_associations.proofs.Meeting.{Answered_so, Answers, Asked, IsHeard, Makes, Takes_it, Unmatched, IsFor, copy_ignored, copy_refused, first_asked, heard, taken_by}
+use Rattle.law_tp4_associations.proofs.Clocked.{not_agreed}
 
 same_some : {A : Type 0} (x y : A) → Some x ≡ Some y → x ≡ y
 same_some x y e = cc
@@ -91,10 +92,6 @@ frozen_left other f = absurd f
 
 parting_left : (a : Association) (x y : End) (here there : List ℕ) (back forth : List Sent) → a.calling ≡ Some x → a.called ≡ Some y → AreParting x y here there back forth → IsBetweenOpen a → ⊥
 parting_left a x y here there back forth calling called p o = elim (parting_has_left x y here there back forth p) [ inl left ↦ calling_left a x calling left o | inr left ↦ called_left a y called left o ]
-
-pub not_agreed : (agreed : Option Options) → agreed ≡ None → sum_agreed agreed ≡ true → ⊥
-not_agreed None e is = cc is
-not_agreed (Some o) e is = cc e
 
 -- the end is frozen, and sends nothing
 record IsEnded (b : EndRecord) (m : Moved) : Type 0 where

@@ -2,38 +2,21 @@
 -- clock makes an end only where no other one holds the reference, and leaves all others as they were.
 use Rattle.std.proofs.Common.{◌≡◌, ◌⊎◌, inl, inr, ℕ, zero, suc, ◌+◌, ◌-◌, ◌≤◌, Bool, true, false, if◌then◌else◌, List, [], ◌∷◌, ◌++◌, length, slice_get, Option, Some, None, refl, sym, ◌∙◌, ap, arith}
 use Rattle.std.proofs.Math.Dec.{eqb-suc-zero}
-use Rattle.std.proofs.lemmas.Bool.{cases_eq, ne_eqb}
+use Rattle.std.proofs.lemmas.Bool.{cases_eq}
 use Rattle.std.proofs.lemmas.Option.{slice_get_within}
 use Rattle.tp4_conn.specs.End.{frozen_for}
 use Rattle.tp4_entity.specs.Entity.{Entity, end_at}
 use Rattle.tp4_entity.specs.References.{is_free_place}
 use Rattle.tp4_entity.specs.Silence.{is_silent, is_within}
-use Rattle.tp4_world.specs.World.{end_numbered, entity_at, is_at, latest, latest_from, with_entity}
+use Rattle.tp4_world.specs.World.{end_numbered, entity_at, latest, with_entity}
 use Rattle.tp4_world.specs.declared.place.EndAt.{EndAt}
 use Rattle.tp4_world.specs.declared.place.Placed.{Placed}
-use Rattle.law_tp4_lawful.proofs.Frames.{entity_other, entity_set}
-use Rattle.law_tp4_lawful.proofs.MakesPlaces.{get_last, latest_last}
+use Rattle.tp4_world.proofs.Entities.{with_found}
+use Rattle.law_tp4_lawful.proofs.Frames.{entity_other}
+use Rattle.law_tp4_lawful.proofs.MakesPlaces.{get_last, latest_last, latest_other}
 use Rattle.law_tp4_lawful.proofs.Silence.{Seen}
 use Rattle.law_tp4_lawful.proofs.WorldPlaces.{some_same}
-
--- ---- the latest end at a place
-
-latest_from_other : (next seen : ℕ) (ends : List EndAt) (end : EndAt) (system reference : ℕ) → is_at system reference end ≡ false → latest_from next seen (ends ++ end ∷ []) system reference ≡ latest_from next seen ends system reference
-latest_from_other next seen [] end system reference apart = ap (λ (b : Bool). if b then next else seen) apart
-latest_from_other next seen (one ∷ ends) end system reference apart = latest_from_other (next + 1) (if is_at system reference one then next else seen) ends end system reference apart
-
-not_there : (system reference at r : ℕ) → (at ≡ system → r ≡ reference → ⊥) → is_at at r (record { system = system; reference = reference }) ≡ false
-not_there system reference at r apart = elim (cases_eq system at) [
-  | inl same ↦ (elim (cases_eq reference r) [
-    | inl is ↦ absurd (apart (sym same) (sym is))
-    | inr other ↦ grind (arith, ne_eqb)
-  ])
-  | inr other ↦ grind (arith, ne_eqb)
-]
-
--- another place has the latest that it had
-latest_other : (ends : List EndAt) (system reference at r : ℕ) → (at ≡ system → r ≡ reference → ⊥) → latest (ends ++ record { system = system; reference = reference } ∷ []) at r ≡ latest ends at r
-latest_other ends system reference at r apart = latest_from_other 1 0 ends (record { system = system; reference = reference }) at r (not_there system reference at r apart)
+use Rattle.law_tp4_lawful.proofs.SilenceSteps.{get_more}
 
 -- ---- numbers
 
@@ -48,15 +31,9 @@ pub number_low : (ends : List EndAt) (number : ℕ) (end : EndAt) → end_number
 number_low ends zero end is = absurd (cc is)
 number_low ends (suc k) end is = let low = slice_get_within ends k end (sym (at_number ends k) ∙ is) in omega (arith, low)
 
-get_still : (ends : List EndAt) (one end : EndAt) (k : ℕ) → slice_get ends k ≡ Some end → slice_get (ends ++ one ∷ []) k ≡ Some end
-get_still [] one end zero is = absurd (cc is)
-get_still [] one end (suc k) is = absurd (cc is)
-get_still (first ∷ ends) one end zero is = is
-get_still (first ∷ ends) one end (suc k) is = get_still ends one end k is
-
 still_numbered : (ends : List EndAt) (one : EndAt) (number : ℕ) (end : EndAt) → end_numbered ends number ≡ Some end → end_numbered (ends ++ one ∷ []) number ≡ Some end
 still_numbered ends one zero end is = absurd (cc is)
-still_numbered ends one (suc k) end is = at_number (ends ++ one ∷ []) k ∙ get_still ends one end k (sym (at_number ends k) ∙ is)
+still_numbered ends one (suc k) end is = at_number (ends ++ one ∷ []) k ∙ get_more ends one end k (sym (at_number ends k) ∙ is)
 
 numbered_last : (ends : List EndAt) (one : EndAt) (number : ℕ) (end : EndAt) → end_numbered (ends ++ one ∷ []) number ≡ Some end → (end_numbered ends number ≡ Some end) ⊎ ((length ends + 1 ≡ number) × (one ≡ end))
 numbered_last ends one zero end is = absurd (cc is)
@@ -223,7 +200,7 @@ module _ (now : ℕ) (entities : List Placed) (system : ℕ) (was new : Entity) 
   changed = with_entity entities system new
 
   pub vacant_new : (r : ℕ) → is_vacant_at now (entity_at changed system) r ≡ is_free_place now (end_at new r)
-  vacant_new r = ap (λ (e : Option Entity). is_vacant_at now e r) (entity_set entities system was new is)
+  vacant_new r = ap (λ (e : Option Entity). is_vacant_at now e r) (with_found entities system was new is)
 
   pub vacant_was : (r : ℕ) → is_vacant_at now (entity_at entities system) r ≡ is_free_place now (end_at was r)
   vacant_was r = ap (λ (e : Option Entity). is_vacant_at now e r) is
@@ -246,6 +223,6 @@ module _ (now : ℕ) (entities : List Placed) (system : ℕ) (was new : Entity) 
   kept_like clock ends like other e there = elim (cases_eq other system) [
     | inl here ↦
         (let same : was ≡ e = some_same was e (sym is ∙ sym (ap (entity_at entities) here) ∙ there) in
-        record { entity = new; there = ap (entity_at changed) here ∙ entity_set entities system was new is; like = like_then e was new (like_same e was same) like })
+        record { entity = new; there = ap (entity_at changed) here ∙ with_found entities system was new is; like = like_then e was new (like_same e was same) like })
     | inr apart ↦ record { entity = e; there = entity_other entities system other new apart ∙ there; like = like_same e e refl }
   ]

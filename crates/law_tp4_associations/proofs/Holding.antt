@@ -1,5 +1,5 @@
 -- An end whose reference is not free keeps it over a row: a row that freezes it does so at that tick.
-use Rattle.std.proofs.Common.{◌≡◌, ℕ, ◌+◌, false, nat_lt, refl, sym, ◌∙◌, ap, subst, arith}
+use Rattle.std.proofs.Common.{◌≡◌, ℕ, ◌+◌, false, nat_lt, sym, ◌∙◌, ap, subst, arith}
 use Rattle.tp4_number.specs.Number.{whole}
 use Rattle.tp4_conn.specs.declared.states.StateData.{StateData}
 use Rattle.tp4_conn.specs.declared.states.StateData.TheVariants.{Frozen}
@@ -7,17 +7,13 @@ use Rattle.tp4_conn.specs.declared.timers.Timers.{Timers}
 use Rattle.tp4_conn.specs.End.{End, end_of, frozen_for}
 use Rattle.tp4_conn.specs.Table.{Event, stepped}
 use Rattle.tp4_entity.specs.References.{was_frozen}
-use Rattle.law_tp4_rows.specs.Leaving.{FreezesAt, GoesOn}
+use Rattle.law_tp4_rows.specs.Leaving.{GoesOn}
 use Rattle.law_tp4_rows.proofs.Leaving.{row_leaves}
 use Rattle.law_tp4_associations.specs.Phase.{IsInUse}
+use Rattle.law_tp4_associations.proofs.FrozenReferences.{not_yet}
 
 pub not_late : (now ticks : ℕ) → nat_lt (now + ticks) now ≡ false
 not_late now ticks = grind arith
-
--- a state that freezes now is not frozen for so long
-not_yet : (now ticks : ℕ) (stage : StateData) → FreezesAt now stage → was_frozen now ticks stage ≡ false
-not_yet now ticks (Frozen when) freezes = ap (λ (t : ℕ). nat_lt (t + ticks) now) freezes ∙ not_late now ticks
-not_yet now ticks other freezes = refl
 
 holds : (now ticks : ℕ) (old new : StateData) → GoesOn now old new → was_frozen now ticks old ≡ false → was_frozen now ticks new ≡ false
 holds now ticks (Frozen when) new same held = ap (was_frozen now ticks) same ∙ held

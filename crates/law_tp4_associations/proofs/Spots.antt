@@ -12,6 +12,7 @@ use Rattle.tp4_entity.specs.Entity.{Entity, end_at, there, with_end}
 use Rattle.tp4_entity.specs.References.{is_free_place, least_free}
 use Rattle.tp4_world.specs.World.{entity_at, is_of, with_entity}
 use Rattle.tp4_world.specs.declared.place.Placed.{Placed}
+use Rattle.tp4_world.proofs.Entities.{with_found}
 use Rattle.law_tp4_associations.specs.Association.{Posted, is_same, post, waiting}
 use Rattle.law_tp4_associations.specs.Standing.{StandsAt}
 use Rattle.law_tp4_associations.proofs.Places.{IsPut, get_other, get_same}
@@ -20,13 +21,6 @@ use Rattle.law_tp4_associations.proofs.Places.{IsPut, get_other, get_same}
 
 abbrev found_in : Bool → Placed → List Placed → ℕ → Option Entity
 found_in b one placed system = option_map (λ (x : Placed). x.entity) (if b then Some one else find (is_of system) placed)
-
-pub entity_set : (placed : List Placed) (system : ℕ) (entity new : Entity) → entity_at placed system ≡ Some entity → entity_at (with_entity placed system new) system ≡ Some new
-entity_set [] system entity new is = absurd cc
-entity_set (one ∷ placed) system entity new is =
-    if_kept (λ (all : List Placed). entity_at all system ≡ Some new) (is_of system one) (record one { entity = new } ∷ placed) (one ∷ with_entity placed system new)
-    (λ h. ap (λ (b : Bool). found_in b (record one { entity = new }) placed system) h)
-    (λ h. ap (λ (b : Bool). found_in b one (with_entity placed system new) system) h ∙ entity_set placed system entity new (sym (ap (λ (b : Bool). found_in b one placed system) h) ∙ is))
 
 pub entity_other : (placed : List Placed) (system other : ℕ) (new : Entity) → (other ≡ system → ⊥) → entity_at (with_entity placed system new) other ≡ entity_at placed other
 entity_other [] system other new apart = refl
@@ -95,7 +89,7 @@ spot_at entities system reference e is = ap (λ (o : Option Entity). found o ref
 pub spot_put : (entities : List Placed) (system reference : ℕ) (e f : Entity) (old place : Option End) → entity_at entities system ≡ Some e → f.ends ≡ e.ends → (reference == 0) ≡ false
     → slice_get e.ends (reference - 1) ≡ Some old → IsPut (spot entities) (spot (with_entity entities system (with_end f reference place))) system reference place
 spot_put entities system reference e f old place is ends some at = record {
-  here = spot_at new system reference (with_end f reference place) (entity_set entities system e (with_end f reference place) is)
+  here = spot_at new system reference (with_end f reference place) (with_found entities system e (with_end f reference place) is)
       ∙ end_set f reference old place some (ap (λ (l : List (Option End)). slice_get l (reference - 1)) ends ∙ at);
   other = λ s r apart. by s r apart (cases_eq s system);
 }
@@ -110,7 +104,7 @@ spot_put entities system reference e f old place is ends some at = record {
     by s r apart (inr unlike) = ap (λ (o : Option Entity). found o r) (entity_other entities system s (with_end f reference place) unlike)
     by s r apart (inl same) =
         ap (λ (n : ℕ). spot (with_entity entities system (with_end f reference place)) n r) same
-        ∙ spot_at (with_entity entities system (with_end f reference place)) system r (with_end f reference place) (entity_set entities system e (with_end f reference place) is)
+        ∙ spot_at (with_entity entities system (with_end f reference place)) system r (with_end f reference place) (with_found entities system e (with_end f reference place) is)
         ∙ end_other f reference r place some (λ e. apart (same, e)) ∙ same_ends r ∙ sym (spot_at entities system r e is) ∙ ap (λ (n : ℕ). spot entities n r) (sym same)
 
 -- the entity stays, but for its clock
@@ -121,7 +115,7 @@ spot_same entities system e f is ends s r = by (cases_eq s system)
     by (inr unlike) = ap (λ (o : Option Entity). found o r) (entity_other entities system s f unlike)
     by (inl same) =
         ap (λ (n : ℕ). spot (with_entity entities system f) n r) same
-        ∙ spot_at (with_entity entities system f) system r f (entity_set entities system e f is)
+        ∙ spot_at (with_entity entities system f) system r f (with_found entities system e f is)
         ∙ ap (λ (l : List (Option End)). if r == 0 then None else there (slice_get l (r - 1))) ends ∙ sym (spot_at entities system r e is) ∙ ap (λ (n : ℕ). spot entities n r) (sym same)
 
 -- ---- the least free reference

@@ -3,6 +3,7 @@
 use Rattle.std.proofs.Common.{◌≡◌, ◌⊎◌, ℕ, ◌+◌, ◌<◌, Bool, true, false, not, List, [], ◌++◌, length, slice_get, slice_set, Option, Some, None, refl, sym, ◌∙◌, ap, subst, inl, inr, append-nil}
 use Rattle.std.specs.List.{AllByRecursion}
 use Rattle.std.proofs.lemmas.Bool.{cases_eq}
+use Rattle.osi_base.proofs.Members.{all_both}
 use Rattle.tp4_flow.specs.declared.step.Sent.{Sent}
 use Rattle.tp4_number.specs.Number.{whole}
 use Rattle.tp4_conn.specs.declared.timers.Timers.{Timers}
@@ -18,7 +19,7 @@ use Rattle.law_tp4_associations.specs.Laws.{Ticks}
 use Rattle.law_tp4_associations.specs.Standing.{AreSystems, IsAssociation, IsParty, Standing}
 use Rattle.law_tp4_associations.specs.Ticking.{HasTicked, IsTicking, ticked_end, ticked_tpdus}
 use Rattle.law_tp4_associations.proofs.Dues.{IsDueAt, first_is_due, none_due, ticked_not_due}
-use Rattle.law_tp4_associations.proofs.Handed.{all_post, all_then, placing_same, systems_on, there_on, within_list}
+use Rattle.law_tp4_associations.proofs.Handed.{all_post, placing_same, systems_on, there_on, within_list}
 use Rattle.law_tp4_associations.proofs.Meeting.{stands_among}
 use Rattle.law_tp4_associations.proofs.Places.{IsPut, Placing, get_other, get_same, put_placing, same_some, set_count, with_system}
 use Rattle.law_tp4_associations.proofs.Spots.{from_spot, spot, spot_put, spot_same, stands_some, to_spot, waiting_apart, waiting_post, waiting_then}
@@ -234,7 +235,7 @@ module _ (timers : Timers) (own : ℕ → List ℕ) (now : ℕ) where
     end_ticks =
         ticking_on entities before system e after t.systems is refl refl (slice_set all k b) queue_after placing_after each_after there_after
         (subst (λ (n : ℕ). AllByRecursion (λ (posted : Posted). posted.of < n) queue_after) (sym (set_count all k b))
-        (all_then (λ (posted : Posted). posted.of < length all) queue (post k by more) t.posted (all_post (length all) k by more (within_list all k p.a p.is))))
+        (all_both (λ (posted : Posted). posted.of < length all) queue (post k by more) t.posted (all_post (length all) k by more (within_list all k p.a p.is))))
 
   abbrev HasOne : List Placed → List Association → List Association → List Posted → ℕ → Entity → ℕ → Type 0
   HasOne entities before all queue system e reference =

@@ -4,6 +4,7 @@ use Rattle.std.proofs.lemmas.Bool.{ltb-true}
 use Rattle.tpdu.specs.declared.tpdu.Tpdu.{Tpdu as WireTpdu}
 use Rattle.tpdu.specs.declared.tpdu.Tpdu.TheVariants as wires
 use Rattle.tpdu.specs.declared.service.Options.{Options}
+use Rattle.tp4_number.proofs.Past.{if_kept}
 use Rattle.tp4_flow.specs.declared.step.EndEvent.{EndEvent}
 use Rattle.tp4_flow.specs.declared.step.Sent.{Sent}
 use Rattle.tp4_sending.specs.SendingHalf.{Sendings, at, opened}
@@ -17,7 +18,6 @@ use Rattle.tp4_conn.specs.End.{IsProposal, IsSized, span, stays, frozen}
 use Rattle.tp4_conn.specs.Proper.{HasSize}
 use Rattle.tp4_conn.specs.UserWait.{refusing, user_wait_accept, user_wait_refuse, user_wait_tick}
 use Rattle.tp4_conn.proofs.Sizes.{agreed_sized}
-use Rattle.tp4_conn.proofs.Timely.{if_kept}
 use Rattle.law_tp4_history.specs.Ends.{Times, Dr, Flow, Tpdu, End, Alone, Took, Accepts}
 use Rattle.law_tp4_history.specs.Moves.{Sees, Moves}
 use Rattle.law_tp4_history.specs.Seen.{terms_of, seen}

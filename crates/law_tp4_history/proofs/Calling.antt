@@ -6,6 +6,7 @@ use Rattle.tpdu.specs.declared.tpdu.Tpdu.{Tpdu as WireTpdu}
 use Rattle.tpdu.specs.declared.tpdu.Tpdu.TheVariants as wires
 use Rattle.tp4_flow.specs.ReceivingHalf.{ak}
 use Rattle.tpdu.specs.declared.service.Options.{Options}
+use Rattle.tp4_number.proofs.Past.{if_kept}
 use Rattle.tp4_flow.specs.declared.step.EndEvent.{EndEvent}
 use Rattle.tp4_sending.specs.SendingHalf.{at, opened}
 use Rattle.tp4_sending.specs.Pieces.{again}
@@ -20,7 +21,6 @@ use Rattle.tp4_conn.specs.CrWait.{confirmed, cr_wait_tpdu, cr_wait_tick, cr_wait
 use Rattle.tp4_conn.specs.End.{span, closing}
 use Rattle.tp4_conn.specs.Matching.{is_answer}
 use Rattle.tp4_conn.specs.WaitBeforeClose.{wait_before_close_tpdu, wait_before_close_tick, again_parting}
-use Rattle.tp4_conn.proofs.Timely.{if_kept}
 use Rattle.law_tp4_history.specs.Ends.{Times, Cc, Terms, Tpdu, End, Alone, Took, Confirmed}
 use Rattle.law_tp4_history.specs.Moves.{times_of, AreTries, Sees, Moves, HasSource}
 use Rattle.law_tp4_history.specs.Seen.{terms_of, seen}

@@ -50,7 +50,7 @@ use Rattle.law_tp4_history.proofs.FlowReceiving.{ack_takes}
 use Rattle.law_tp4_history.proofs.FlowSending.{Sends, credit_sends}
 
 -- what is agreed says the terms, and is said by them but for whether the size is a preferred one
-same_format : (one other : Format) → is_extended one ≡ is_extended other → one ≡ other
+pub same_format : (one other : Format) → is_extended one ≡ is_extended other → one ≡ other
 same_format formats.Normal formats.Normal e = refl
 same_format formats.Normal formats.Extended e = absurd (true≢false (sym e))
 same_format formats.Extended formats.Normal e = absurd (true≢false e)

@@ -5,6 +5,7 @@ use Rattle.tp4_number.specs.declared.got.Got.{Got}
 use Rattle.tp4_number.specs.declared.got.Got.TheVariants.{TooLarge}
 use Rattle.tp4_number.specs.declared.piece.Piece.{Piece}
 use Rattle.tp4_number.specs.Number.{near}
+use Rattle.tp4_number.proofs.Past.{if_kept}
 use Rattle.tp4_flow.specs.ReceivingHalf.{Half, ak, aks, ea, taken_ed, is_next, is_before}
 use Rattle.tp4_flow.specs.declared.rules.FlowRules.{FlowRules}
 use Rattle.tp4_flow.specs.declared.rules.Life.{Life}
@@ -13,7 +14,6 @@ use Rattle.tp4_flow.specs.declared.step.Sent.{Sent}
 use Rattle.tp4_sending.specs.SendingHalf.{FlowSender, Sendings, nothing, then_sends, rule_allows, is_noted, is_urgent, has_next, dts, dts_of, eds, all_dts, due_numbers, sent_normal, normals, normals_where, one_urgent, resends, resends_urgent, resends_urgent_as, new_sends, opened, submitted, urged, acknowledged, acknowledged_to, is_taken, urgent_done, is_outstanding, ticked, ticked_as, life_of, block_in}
 use Rattle.tp4_sending.specs.Pieces.{end_of, is_due}
 use Rattle.tp4_sending.specs.declared.tries.Tries.{Tries}
-use Rattle.tp4_conn.proofs.Timely.{if_kept}
 use Rattle.law_tp4_history.specs.Ends.{Flow}
 use Rattle.law_tp4_history.specs.Seen.{seen}
 

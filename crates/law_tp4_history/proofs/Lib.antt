@@ -17,7 +17,7 @@ mod FlowOpened
 pub mod FlowOut
 mod FlowReceiving
 mod FlowResends
-mod FlowRows
+pub mod FlowRows
 mod FlowRule
 mod FlowSending
 mod FlowSends

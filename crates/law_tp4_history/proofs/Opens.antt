@@ -5,6 +5,7 @@ use Rattle.tpdu.specs.declared.tpdu.Tpdu.TheVariants as wires
 use Rattle.tp4_number.specs.declared.got.Got.{Got}
 use Rattle.tp4_number.specs.declared.got.Got.TheVariants as gots
 use Rattle.tp4_number.specs.declared.piece.Piece.{Piece}
+use Rattle.tp4_number.proofs.Past.{if_kept}
 use Rattle.tp4_flow.specs.ReceivingHalf.{Half, Received, ak, aks, dt_arrival, taken_dt, half_granted}
 use Rattle.tpdu.specs.declared.service.Options.{Options}
 use Rattle.tp4_flow.specs.declared.rules.Life.{Life}
@@ -20,7 +21,6 @@ use Rattle.tp4_conn.specs.declared.states.StateData.TheVariants as stages
 use Rattle.tp4_conn.specs.Agreeing.{flow_rules}
 use Rattle.tp4_conn.specs.End.{Moved, span, led_by, confirms, closing}
 use Rattle.tp4_conn.specs.Opened.{hearing, sending, acking, dt_as, is_expedited, opened_tpdu, opened_normal, opened_urgent, opened_window, opened_disconnect, opened_as, opened_tick, protocol_error}
-use Rattle.tp4_conn.proofs.Timely.{if_kept}
 use Rattle.law_tp4_history.specs.Ends.{Times, Dr, Tpdu, Closing, End, Cause, Alone, Took, took_by, IsOpen}
 use Rattle.law_tp4_history.specs.Moves.{AreOwn, Sees, Moves}
 use Rattle.law_tp4_history.specs.Seen.{terms_of, seen}

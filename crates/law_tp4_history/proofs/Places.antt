@@ -67,7 +67,7 @@ get_left [] ys p low = absurd (omega (arith, low))
 get_left (x ∷ xs) ys zero low = refl
 get_left (x ∷ xs) ys (suc p) low = get_left xs ys p (omega (arith, low))
 
-get_right : (xs ys : List Event) (p i : ℕ) → p ≡ length xs + i → slice_get (xs ++ ys) p ≡ slice_get ys i
+pub get_right : (xs ys : List Event) (p i : ℕ) → p ≡ length xs + i → slice_get (xs ++ ys) p ≡ slice_get ys i
 get_right [] ys p i at = ap (slice_get ys) (omega (arith, at))
 get_right (x ∷ xs) ys zero i at = absurd (omega (arith, at))
 get_right (x ∷ xs) ys (suc p) i at = get_right xs ys p i (omega (arith, at))
@@ -88,7 +88,7 @@ get_either journal more p event is = elim (cases_lt p (length journal)) [
       inr (p - length journal, at, sym (get_right journal more p (p - length journal) at) ∙ is))
 ]
 
-none_made : (made : List Event) (i : ℕ) (event : Event) → MakesNone made → slice_get made i ≡ Some event → makes_end event ≡ false
+pub none_made : (made : List Event) (i : ℕ) (event : Event) → MakesNone made → slice_get made i ≡ Some event → makes_end event ≡ false
 none_made made i event none is = subst (λ (e : Event). makes_end e ≡ false) (get_or_from_slice_get made i event event is) (none i event (slice_get_within made i event is))
 
 -- other events follow

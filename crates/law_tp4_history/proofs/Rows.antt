@@ -3,6 +3,7 @@ use Rattle.std.proofs.Common.{◌≡◌, ◌≢◌, ◌⊎◌, inl, inr, ℕ, �
 use Rattle.std.proofs.Math.Nat.{mul-le-mul_right}
 use Rattle.std.proofs.lemmas.Bool.{eqb-false}
 use Rattle.tpdu.specs.declared.service.Options.{Options}
+use Rattle.tp4_number.proofs.Past.{if_kept}
 use Rattle.tp4_flow.specs.declared.step.EndEvent.{EndEvent}
 use Rattle.tp4_flow.specs.declared.step.Sent.{Sent}
 use Rattle.tp4_sending.specs.Pieces.{again}
@@ -13,7 +14,6 @@ use Rattle.tp4_conn.specs.declared.states.StateData.TheVariants as stages
 use Rattle.tp4_conn.specs.declared.timers.Timers.{Timers}
 use Rattle.tp4_conn.specs.End.{Moved, span, stays, led_by, closing, frozen, release, confirms}
 use Rattle.tp4_conn.specs.Living.{IsInTime}
-use Rattle.tp4_conn.proofs.Timely.{if_kept}
 use Rattle.law_tp4_history.specs.Ends.{Times, Dr, Dc, Cc, Tpdu, Opened, Closing, Frozen, End, Cause, Alone, Took, took_by, Agrees, IsOpen}
 use Rattle.law_tp4_history.specs.Moves.{times_of, phase_of, stop_of, IsPartedIn, AreTries, IsSeenIn, acts_by, Sees, Moves}
 use Rattle.law_tp4_history.specs.Seen.{terms_of, AreOffersOf}

@@ -5,12 +5,12 @@ use Rattle.tp4_number.specs.Traffic.{Tick as Ticks_on, Open, Send, Resend, Dt_co
 use Rattle.tp4_number.specs.Expedited.{Ticks, Sends_ed, Resends_ed, Ed_comes, Ea_comes}
 use Rattle.script_journal.specs.Lawful.{Marked, submitted, shown, IsQueue}
 use Rattle.script_journal.specs.declared.event.Event.{Event}
+use Rattle.script_journal.proofs.Showing.{shown_both, submitted_both}
 use Rattle.law_tp4_history.specs.Ends.{Times, IsFit, Offer, Birth, End}
 use Rattle.law_tp4_history.specs.History.{History, IsCaller, IsPartner, Step, Tick, Connect, Indicate, Reply, Take, Act, Release, Restart, Note, May, next}
 use Rattle.law_tp4_history.specs.Line.{Line, Happening, Submit, Clock, Flows, Expedites, next as next_line}
 use Rattle.law_tp4_history.specs.Tracks.{Track, CanOut, CanIn, RunsBy, Whole, set_track, Doing, Nothing, Start, Go, done, MayDo, clocked, tracks, MayAll, onward}
 use Rattle.law_tp4_history.specs.Units.{TellsNone, Tells, MayTell, MayTellAll, Saying, Says, Spoken, TellsTrue}
-use Rattle.law_tp4_history.proofs.Appended.{submitted-append, shown-append}
 use Rattle.law_tp4_history.proofs.Sound.{Sound, one_partner}
 use Rattle.law_tp4_history.proofs.Later.{IsLater, partner_on, caller_on, caller_back}
 use Rattle.law_tp4_history.proofs.Meets.{swap}
@@ -64,10 +64,10 @@ aside base track journal made none f = record {
 }
   where
     no_submitted : (k : ℕ) → submitted (k + 1) (journal ++ made) ≡ submitted (k + 1) journal
-    no_submitted k = submitted-append (k + 1) journal made ∙ ap (λ (us : List Marked). submitted (k + 1) journal ++ us) (none (k + 1)).0 ∙ append-nil (submitted (k + 1) journal)
+    no_submitted k = submitted_both (k + 1) journal made ∙ ap (λ (us : List Marked). submitted (k + 1) journal ++ us) (none (k + 1)).0 ∙ append-nil (submitted (k + 1) journal)
 
     no_shown : (k : ℕ) → shown (k + 1) (journal ++ made) ≡ shown (k + 1) journal
-    no_shown k = shown-append (k + 1) journal made ∙ ap (λ (us : List Marked). shown (k + 1) journal ++ us) (none (k + 1)).1 ∙ append-nil (shown (k + 1) journal)
+    no_shown k = shown_both (k + 1) journal made ∙ ap (λ (us : List Marked). shown (k + 1) journal ++ us) (none (k + 1)).1 ∙ append-nil (shown (k + 1) journal)
 
 module _ (times : Times) (w : Whole) (s : Sound times w.base) (t : Tracked times w) (journal : List Event) (f : Telling w.base w.track journal) (new : History) (n : Sound times new) (l : IsLater w.base new) where
   -- a pair whose line has begun is old
@@ -134,14 +134,14 @@ module _ (times : Times) (w : Whole) (s : Sound times w.base) (t : Tracked times
     gave = λ k. at_track (λ (j : ℕ) (to : Track). to.is_begun ≡ true → submitted (j + 1) (journal ++ made) ≡ to.line.submitted) (set_track w.track y own) z theirs k
         (λ _. given_same z apart ∙ f.gave z may.2.begun ∙ sym (ins_given taken (w.track z) (w.track z).line theirs.line may.2.happenings may.2.runs))
         (λ _. at_track (λ (j : ℕ) (to : Track). to.is_begun ≡ true → submitted (j + 1) (journal ++ made) ≡ to.line.submitted) w.track y own k
-        (λ _. submitted-append (y + 1) journal made ∙ ap (λ (us : List Marked). us ++ submitted (y + 1) made) (f.gave y may.1.begun) ∙ sym tells.gave)
+        (λ _. submitted_both (y + 1) journal made ∙ ap (λ (us : List Marked). us ++ submitted (y + 1) made) (f.gave y may.1.begun) ∙ sym tells.gave)
         (λ other begun. given_same k other ∙ f.gave k begun));
     none = λ k. at_track (λ (j : ℕ) (to : Track). to.is_begun ≡ false → submitted (j + 1) (journal ++ made) ≡ []) (set_track w.track y own) z theirs k (λ no_line. absurd (cc (no_line, begun_z)))
         (λ _. at_track (λ (j : ℕ) (to : Track). to.is_begun ≡ false → submitted (j + 1) (journal ++ made) ≡ []) w.track y own k (λ no_line. absurd (cc (no_line, begun_y))) (λ other no_line. given_same k other ∙ f.none k no_line));
     showed = λ x q. at_track (λ (j : ℕ) (to : Track). IsPartner new j q → to.is_begun ≡ true → shown (q + 1) (journal ++ made) ≡ to.line.shown) (set_track w.track y own) z theirs x
         (λ p _. (let same : y ≡ q = one_partner times w.base s z y q (swap w.base y z may.0) (old_pair z q p may.2.begun) in
         subst (λ (k : ℕ). shown (k + 1) (journal ++ made) ≡ theirs.line.shown) same
-        (shown-append (y + 1) journal made ∙ ap (λ (us : List Marked). us ++ shown (y + 1) made) (f.showed z y (swap w.base y z may.0) may.2.begun) ∙ sym tells.showed)))
+        (shown_both (y + 1) journal made ∙ ap (λ (us : List Marked). us ++ shown (y + 1) made) (f.showed z y (swap w.base y z may.0) may.2.begun) ∙ sym tells.showed)))
         (λ not_z. at_track (λ (j : ℕ) (to : Track). (j ≡ z → ⊥) → IsPartner new j q → to.is_begun ≡ true → shown (q + 1) (journal ++ made) ≡ to.line.shown) w.track y own x
         (λ _ p _. (let same : z ≡ q = one_partner times w.base s y z q may.0 (old_pair y q p may.1.begun) in
         subst (λ (k : ℕ). shown (k + 1) (journal ++ made) ≡ own.line.shown) same
@@ -172,10 +172,10 @@ module _ (times : Times) (w : Whole) (s : Sound times w.base) (t : Tracked times
       apart = apart_by may.0
 
       given_same : (k : ℕ) → (k ≡ y → ⊥) → submitted (k + 1) (journal ++ made) ≡ submitted (k + 1) journal
-      given_same k other = submitted-append (k + 1) journal made ∙ ap (λ (us : List Marked). submitted (k + 1) journal ++ us) (tells.others (k + 1) (λ same. other (omega (arith, same)))).0 ∙ append-nil (submitted (k + 1) journal)
+      given_same k other = submitted_both (k + 1) journal made ∙ ap (λ (us : List Marked). submitted (k + 1) journal ++ us) (tells.others (k + 1) (λ same. other (omega (arith, same)))).0 ∙ append-nil (submitted (k + 1) journal)
 
       got_same : (k : ℕ) → (k ≡ y → ⊥) → shown (k + 1) (journal ++ made) ≡ shown (k + 1) journal
-      got_same k other = shown-append (k + 1) journal made ∙ ap (λ (us : List Marked). shown (k + 1) journal ++ us) (tells.others (k + 1) (λ same. other (omega (arith, same)))).1 ∙ append-nil (shown (k + 1) journal)
+      got_same k other = shown_both (k + 1) journal made ∙ ap (λ (us : List Marked). shown (k + 1) journal ++ us) (tells.others (k + 1) (λ same. other (omega (arith, same)))).1 ∙ append-nil (shown (k + 1) journal)
 
   pub doings : (y : ℕ) (e : End) (taken : Option Offer) (doing : Doing) (made : List Event) → MayDo times w y e taken doing → MayTell w y doing made → Telling new (done w.track y doing) (journal ++ made)
   doings y e taken Nothing made may tell = quietly w.track made tell (λ k. (refl, refl, refl))

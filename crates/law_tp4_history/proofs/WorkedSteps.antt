@@ -21,11 +21,6 @@ one_end : (P : ℕ → Type 0) → P 0 → (k : ℕ) → k < 1 → P k
 one_end P p zero low = p
 one_end P p (suc k) low = absurd (omega (arith, low))
 
-two_ends : (P : ℕ → Type 0) → P 0 → P 1 → (k : ℕ) → k < 2 → P k
-two_ends P p q zero low = p
-two_ends P p q (suc zero) low = q
-two_ends P p q (suc (suc k)) low = absurd (omega (arith, low))
-
 -- and of one offer, or of two
 one_offer : (P : Offer → Type 0) (first : Offer) → P first → (o : Offer) → Contains (first ∷ []) o → P o
 one_offer P first p o (zero, low, is) = subst P is p
@@ -54,7 +49,7 @@ f1 = record {
   makes = record { asked = asked; rest = []; is = refl; asks = record { end = refl; reference = refl; calling = refl; called = refl; calling_selector = refl; called_selector = refl; octets = refl }; aside = no_events };
 }
 
-one_event : (event : Event) → makes_end event ≡ false → MakesNone (event ∷ [])
+pub one_event : (event : Event) → makes_end event ≡ false → MakesNone (event ∷ [])
 one_event event is zero d low = is
 one_event event is (suc k) d low = absurd (omega (arith, low))
 

@@ -9,13 +9,13 @@ use Rattle.script_journal.specs.declared.event.Event.{Event}
 use Rattle.script_journal.specs.declared.event.Event.TheVariants as events
 use Rattle.script_journal.specs.declared.event.Indication.{Indication}
 use Rattle.script_journal.specs.declared.event.Request.{Request}
+use Rattle.script_journal.proofs.Showing.{shown_both, submitted_both}
 use Rattle.law_tp4_history.specs.Ends.{Times, IsFit, End}
 use Rattle.law_tp4_history.specs.History.{History, IsPartner, Step, Tick, Connect, Indicate, Reply, Take, Act, Release, Restart, Note, May, next}
 use Rattle.law_tp4_history.specs.Tracks.{Whole, Doing, Go, Moment, onward, LeadsAll, ReachedAll, IsNothing}
 use Rattle.law_tp4_history.specs.Units.{TellsNone, MayTell, MayTellAll, Saying}
 use Rattle.law_tp4_history.specs.Journals.{makes_end, MakesNone, Asks, Hears, MayMake, MayFollow, Writes, Written}
 use Rattle.law_tp4_history.proofs.Agreed.{Agreed, agreed_step, agreed_start}
-use Rattle.law_tp4_history.proofs.Appended.{submitted-append, shown-append}
 use Rattle.law_tp4_history.proofs.Begun.{here}
 use Rattle.law_tp4_history.proofs.Later.{IsLater, partner_on}
 use Rattle.law_tp4_history.proofs.Lines.{lawful_front}
@@ -43,16 +43,16 @@ nil_left [] ys e = refl
 nil_left (x ∷ xs) ys e = absurd (cc e)
 
 submitted_front : (end : ℕ) (xs ys : List Event) → submitted end (xs ++ ys) ≡ [] → submitted end xs ≡ []
-submitted_front end xs ys e = nil_left (submitted end xs) (submitted end ys) (sym (submitted-append end xs ys) ∙ e)
+submitted_front end xs ys e = nil_left (submitted end xs) (submitted end ys) (sym (submitted_both end xs ys) ∙ e)
 
 shown_front : (end : ℕ) (xs ys : List Event) → shown end (xs ++ ys) ≡ [] → shown end xs ≡ []
-shown_front end xs ys e = nil_left (shown end xs) (shown end ys) (sym (shown-append end xs ys) ∙ e)
+shown_front end xs ys e = nil_left (shown end xs) (shown end ys) (sym (shown_both end xs ys) ∙ e)
 
 same_submitted : (end : ℕ) (xs ys : List Event) → submitted end ys ≡ [] → submitted end (xs ++ ys) ≡ submitted end xs
-same_submitted end xs ys none = submitted-append end xs ys ∙ ap (λ (us : List Marked). submitted end xs ++ us) none ∙ append-nil (submitted end xs)
+same_submitted end xs ys none = submitted_both end xs ys ∙ ap (λ (us : List Marked). submitted end xs ++ us) none ∙ append-nil (submitted end xs)
 
 same_shown : (end : ℕ) (xs ys : List Event) → shown end ys ≡ [] → shown end (xs ++ ys) ≡ shown end xs
-same_shown end xs ys none = shown-append end xs ys ∙ ap (λ (us : List Marked). shown end xs ++ us) none ∙ append-nil (shown end xs)
+same_shown end xs ys none = shown_both end xs ys ∙ ap (λ (us : List Marked). shown end xs ++ us) none ∙ append-nil (shown end xs)
 
 -- a front of two lists ends within the first or within the second
 front_cases : (xs ys front back : List Event) → xs ++ ys ≡ front ++ back → ((more : List Event) × (xs ≡ front ++ more)) ⊎ ((part : List Event) × (front ≡ xs ++ part) × (ys ≡ part ++ back))
@@ -234,13 +234,13 @@ module _ (times : Times) (fit : IsFit times) (titles : List (List ℕ)) (w : Who
           let none_yet : submitted (x + 1) part ≡ [] = submitted_front (x + 1) part rest (ap (submitted (x + 1)) (sym is) ∙ none) in
           let after = queue_at times fit titles (onward times w m) (before ++ made) kept_next x y p in
           let given : submitted (x + 1) (before ++ made) ≡ submitted (x + 1) (before ++ part) = same_submitted (x + 1) before made none ∙ sym (same_submitted (x + 1) before part none_yet) in
-          let got : shown (y + 1) (before ++ made) ≡ shown (y + 1) (before ++ part) ++ shown (y + 1) rest = ap (shown (y + 1)) (sym whole) ∙ shown-append (y + 1) (before ++ part) rest in
+          let got : shown (y + 1) (before ++ made) ≡ shown (y + 1) (before ++ part) ++ shown (y + 1) rest = ap (shown (y + 1)) (sym whole) ∙ shown_both (y + 1) (before ++ part) rest in
           subst (λ (us : List Marked). IsQueue us (shown (y + 1) (before ++ part))) given
           (lawful_front (submitted (x + 1) (before ++ made)) (shown (y + 1) (before ++ part)) (shown (y + 1) rest) (subst (IsQueue (submitted (x + 1) (before ++ made))) got after)))
       | inr rests ↦
           (let none : shown (y + 1) made ≡ [] = (a.1.others (y + 1) (λ same. rests (omega (arith, same)))).1 in
           let none_yet : shown (y + 1) part ≡ [] = shown_front (y + 1) part rest (ap (shown (y + 1)) (sym is) ∙ none) in
-          subst (λ (us : List Marked). IsQueue us (shown (y + 1) (before ++ part))) (sym (submitted-append (x + 1) before part))
+          subst (λ (us : List Marked). IsQueue us (shown (y + 1) (before ++ part))) (sym (submitted_both (x + 1) before part))
           (queue_more (submitted (x + 1) before) (submitted (x + 1) part) (shown (y + 1) (before ++ part))
           (subst (IsQueue (submitted (x + 1) before)) (sym (same_shown (y + 1) before part none_yet)) (queue_before x y p))))
     ]

@@ -1,6 +1,7 @@
 -- What an end tells as held stands in the journal under the number of the end.
-use Rattle.std.proofs.Common.{◌≡◌, ◌⊎◌, inl, inr, ℕ, List, [], ◌∷◌, ◌++◌, sym, ◌∙◌, ap, subst, arith, Contains}
-use Rattle.std.proofs.lemmas.List.Elements.{Contains-append_cases, Contains-append_left, Contains-append_right, Contains-push, Contains-push_cases}
+use Rattle.std.proofs.Common.{◌≡◌, inl, inr, ℕ, List, [], ◌∷◌, sym, ◌∙◌, ap, subst, arith, Contains}
+use Rattle.std.proofs.lemmas.List.Elements.{Contains-append_left, Contains-append_right, Contains-push}
+use Rattle.osi_base.proofs.Members.{contains_cases}
 use Rattle.script_journal.specs.declared.event.Event.TheVariants as events
 use Rattle.tpdu.specs.declared.service.EndTold.TheVariants as tells
 use Rattle.tpdu.specs.declared.service.HeldKind.{HeldKind}
@@ -11,15 +12,6 @@ use Rattle.tp4_world.specs.World.{latest}
 use Rattle.tp4_world.specs.declared.place.EndAt.{EndAt}
 use Rattle.law_tp4_lawful.proofs.ActsRows.{AreTold, IsTold}
 use Rattle.law_tp4_lawful.proofs.ActsTold.{ends_stay}
-
-first_or_rest : {A : Type 0} (x : A) (xs : List A) (y : A) → Contains (x ∷ xs) y → (x ≡ y) ⊎ Contains xs y
-first_or_rest x xs y there = elim (Contains-append_cases (x ∷ []) xs y there) [
-  | inl one ↦ elim (Contains-push_cases [] x y one) [
-    | inl none ↦ absurd (omega (arith, none.1))
-    | inr same ↦ inl same
-  ]
-  | inr rest ↦ inr rest
-]
 
 pub first_there : {A : Type 0} (x : A) (xs : List A) → Contains (x ∷ xs) x
 first_there x xs = Contains-append_left (x ∷ []) xs x (Contains-push [] x)
@@ -34,7 +26,7 @@ module _ (system : ℕ) (address : List ℕ) (own n : ℕ) where
   pub held_in : (told : List EndEvent) (ends : List EndAt) (reference m : ℕ) (kind : HeldKind) → latest ends system own ≡ n → AreTold own told
       → Contains told (record { reference = reference; what = whats.End (tells.Held kind m) }) → Contains (events_after ends system address told) (events.End n (tells.Held kind m))
   held_in [] ends reference m kind at are there = absurd (omega (arith, there.1))
-  held_in (first ∷ told) ends reference m kind at are there = elim (first_or_rest first told (record { reference = reference; what = whats.End (tells.Held kind m) }) there) [
+  held_in (first ∷ told) ends reference m kind at are there = elim (contains_cases first told (record { reference = reference; what = whats.End (tells.Held kind m) }) there) [
     | inl same ↦
         subst (λ (e : EndEvent). Contains (events_after ends system address (e ∷ told)) (events.End n (tells.Held kind m))) (sym same)
         (held_first ends reference m kind told at (subst (λ (e : EndEvent). IsTold own e.reference e.what) same are.0))

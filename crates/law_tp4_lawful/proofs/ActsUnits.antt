@@ -4,11 +4,11 @@ use Rattle.std.proofs.lemmas.Bool.{cases_eq}
 use Rattle.std.proofs.lemmas.List.Elements.{All-append}
 use Rattle.script_journal.specs.Lawful.{Marked, submitted, shown}
 use Rattle.script_journal.specs.declared.event.Event.{Event as Told}
+use Rattle.script_journal.proofs.Showing.{shown_both, submitted_both}
 use Rattle.tp4_flow.specs.declared.step.EndEvent.{EndEvent}
 use Rattle.tp4_conn.specs.Table.{Event}
 use Rattle.law_tp4_history.specs.Journals.{makes_end, MakesNone}
 use Rattle.law_tp4_history.specs.Units.{TellsNone}
-use Rattle.law_tp4_history.proofs.Appended.{submitted-append, shown-append}
 use Rattle.law_tp4_history.specs.Lines.{given, shown_in}
 use Rattle.tp4_world.specs.Telling.{events_after}
 use Rattle.tp4_world.specs.World.{latest}
@@ -32,20 +32,20 @@ module _ (ends : List EndAt) (system : ℕ) (address : List ℕ) (reference numb
 
   pub given_own : submitted number made ≡ given event
   given_own =
-      submitted-append number first rest ∙ ap (λ (us : List Marked). submitted number first ++ us) (lines_give_none system address number ends told) ∙ append-nil (submitted number first)
+      submitted_both number first rest ∙ ap (λ (us : List Marked). submitted number first ++ us) (lines_give_none system address number ends told) ∙ append-nil (submitted number first)
       ∙ first_gives number event
 
   pub given_other : (end : ℕ) → end ≢ number → submitted end made ≡ []
   given_other end other =
-      submitted-append end first rest ∙ ap (λ (us : List Marked). us ++ submitted end rest) (first_gives_none end number event other) ∙ lines_give_none system address end ends told
+      submitted_both end first rest ∙ ap (λ (us : List Marked). us ++ submitted end rest) (first_gives_none end number event other) ∙ lines_give_none system address end ends told
 
   pub shown_own : shown number made ≡ shown_in told
   shown_own =
-      shown-append number first rest ∙ ap (λ (us : List Marked). us ++ shown number rest) (first_shows_none number number event) ∙ own_shows system address reference number ends told are at
+      shown_both number first rest ∙ ap (λ (us : List Marked). us ++ shown number rest) (first_shows_none number number event) ∙ own_shows system address reference number ends told are at
 
   pub shown_other : (end : ℕ) → end ≢ number → shown end made ≡ []
   shown_other end other =
-      shown-append end first rest ∙ ap (λ (us : List Marked). us ++ shown end rest) (first_shows_none end number event) ∙ others_show_none system address reference number end ends told other are at
+      shown_both end first rest ∙ ap (λ (us : List Marked). us ++ shown end rest) (first_shows_none end number event) ∙ others_show_none system address reference number end ends told other are at
 
   pub tells_none : given event ≡ [] → shown_in told ≡ [] → TellsNone made
   tells_none gave showed end = elim (cases_eq end number) [

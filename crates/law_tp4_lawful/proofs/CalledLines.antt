@@ -3,6 +3,7 @@ use Rattle.std.proofs.Common.{◌≡◌, ℕ, ◌≤◌, true, List, [], ◌∷�
 use Rattle.std.specs.List.{AllByRecursion}
 use Rattle.osi_base.specs.Link.{Link}
 use Rattle.osi_base.specs.Calls.{Call}
+use Rattle.osi_base.proofs.Members.{all_both}
 use Rattle.script_journal.specs.declared.event.Event.{Event}
 use Rattle.script_lines.specs.declared.line.Line.{Line}
 use Rattle.script_lines.specs.declared.line.Line.TheVariants as lines
@@ -26,10 +27,10 @@ use Rattle.law_tp4_lawful.specs.References.{OnRuns}
 module _ {C : Type 0} (link : C → Link (List ℕ)) (steps : C → Call (List ℕ) → C → Type 0) where
   module _ (wrap : ℕ → ℕ → ℕ) where
     -- these calls have the same events, and keep their limits where the lines do
-    record HaveCalls (old : World C) (made : List Event) (new : World C) (Proper : Type 0) : Type 0 where
-      calls : List WorldCall
-      did : DidAll link steps wrap old calls made new
-      limits : Proper → AllByRecursion KeepsLimits calls
+    pub record HaveCalls (old : World C) (made : List Event) (new : World C) (Proper : Type 0) : Type 0 where
+      pub calls : List WorldCall
+      pub did : DidAll link steps wrap old calls made new
+      pub limits : Proper → AllByRecursion KeepsLimits calls
 
     one_call : (call : WorldCall) (old new : World C) (made : List Event) (Proper : Type 0) → Did link steps wrap old call made new → (Proper → KeepsLimits call) → HaveCalls old made new Proper
     one_call call old new made Proper did limits = record {
@@ -38,7 +39,7 @@ module _ {C : Type 0} (link : C → Link (List ℕ)) (steps : C → Call (List �
       limits = λ proper. (limits proper, tt);
     }
 
-    both_did : (first second : List WorldCall) (old mid new : World C) (here rest : List Event) → DidAll link steps wrap old first here mid → DidAll link steps wrap mid second rest new
+    pub both_did : (first second : List WorldCall) (old mid new : World C) (here rest : List Event) → DidAll link steps wrap old first here mid → DidAll link steps wrap mid second rest new
         → DidAll link steps wrap old (first ++ second) (here ++ rest) new
     both_did [] second old mid new here rest a b =
         subst (λ (w : World C). DidAll link steps wrap w second (here ++ rest) new) a.1 (subst (λ (es : List Event). DidAll link steps wrap mid second (es ++ rest) new) (sym a.0) b)
@@ -51,11 +52,7 @@ module _ {C : Type 0} (link : C → Link (List ℕ)) (steps : C → Call (List �
       both_did first second a.0 mid new a.2 rest a.5 b,
     )
 
-    all_both : (xs ys : List WorldCall) → AllByRecursion KeepsLimits xs → AllByRecursion KeepsLimits ys → AllByRecursion KeepsLimits (xs ++ ys)
-    all_both [] ys first rest = rest
-    all_both (x ∷ xs) ys first rest = (first.0, all_both xs ys first.1 rest)
-
-    line_called : (titles : List (List ℕ)) (line : Line) (old new : World C) (made : List Event) → RunsLine link steps wrap titles old line made new → HaveCalls old made new (IsProperLine line)
+    pub line_called : (titles : List (List ℕ)) (line : Line) (old new : World C) (made : List Event) → RunsLine link steps wrap titles old line made new → HaveCalls old made new (IsProperLine line)
     line_called titles lines.Nothing old new made s = record { calls = []; did = s; limits = λ proper. tt }
     line_called titles (lines.Connect system selector to called options octets) old new made s =
         one_call (requests.Connect system s.1) old new made _ s.4.4
@@ -78,7 +75,7 @@ module _ {C : Type 0} (link : C → Link (List ℕ)) (steps : C → Call (List �
     line_called titles (lines.Restart system) old new made s = one_call (requests.Restart system) old new made _ s (λ proper. tt)
     line_called titles other old new made s = absurd s
 
-    lines_called : (titles : List (List ℕ)) (script : List Line) (first last : World C) (journal : List Event) → RunsLines link steps wrap titles first script journal last
+    pub lines_called : (titles : List (List ℕ)) (script : List Line) (first last : World C) (journal : List Event) → RunsLines link steps wrap titles first script journal last
         → HaveCalls first journal last (AllByRecursion IsProperLine script)
     lines_called titles [] first last journal s = record { calls = []; did = s; limits = λ proper. tt }
     lines_called titles (line ∷ script) first last journal s =
@@ -87,7 +84,7 @@ module _ {C : Type 0} (link : C → Link (List ℕ)) (steps : C → Call (List �
         record {
           calls = here.calls ++ rest.calls;
           did = subst (λ (es : List Event). DidAll link steps wrap first (here.calls ++ rest.calls) es last) (sym s.4) (both_did here.calls rest.calls first s.0 last s.1 s.2 here.did rest.did);
-          limits = λ proper. all_both here.calls rest.calls (here.limits proper.0) (rest.limits proper.1);
+          limits = λ proper. all_both KeepsLimits here.calls rest.calls (here.limits proper.0) (rest.limits proper.1);
         }
 
     run_calls : (titles : List (List ℕ)) (timers : Timers) (made : C) (placed : List Placed) (begun journal : List Event) (script : List Line) (first last : World C)

@@ -3,12 +3,13 @@ use Rattle.std.proofs.Common.{◌≡◌, ◌≢◌, inl, inr, ℕ, ◌-◌, ◌=
 use Rattle.std.specs.Prelude.{option_map}
 use Rattle.std.specs.List.{find}
 use Rattle.std.proofs.lemmas.Bool.{cases_eq, eqb-true, ne_eqb}
+use Rattle.tp4_number.proofs.Past.{if_kept}
 use Rattle.tp4_conn.specs.End.{End}
-use Rattle.tp4_conn.proofs.Timely.{if_kept}
 use Rattle.tp4_entity.specs.Entity.{Entity, end_at, there, with_end}
 use Rattle.tp4_entity.proofs.Standings.{within}
 use Rattle.tp4_world.specs.World.{entity_at, is_of, with_entity}
 use Rattle.tp4_world.specs.declared.place.Placed.{Placed}
+use Rattle.tp4_world.proofs.Entities.{with_found}
 use Rattle.law_tp4_lawful.proofs.Acting.{IsLike}
 use Rattle.law_tp4_lawful.proofs.MakesPlaces.{at_other, at_same}
 
@@ -32,13 +33,6 @@ entity_of found = option_map (λ (one : Placed). one.entity) found
 
 abbrev found_in : Bool → Placed → List Placed → ℕ → Option Entity
 found_in b one placed system = entity_of (if b then Some one else find (is_of system) placed)
-
-pub entity_set : (placed : List Placed) (system : ℕ) (entity new : Entity) → entity_at placed system ≡ Some entity → entity_at (with_entity placed system new) system ≡ Some new
-entity_set [] system entity new is = absurd cc
-entity_set (one ∷ placed) system entity new is =
-    if_kept (λ (all : List Placed). entity_at all system ≡ Some new) (is_of system one) (record one { entity = new } ∷ placed) (one ∷ with_entity placed system new)
-    (λ h. ap (λ (b : Bool). found_in b (record one { entity = new }) placed system) h)
-    (λ h. ap (λ (b : Bool). found_in b one (with_entity placed system new) system) h ∙ entity_set placed system entity new (sym (ap (λ (b : Bool). found_in b one placed system) h) ∙ is))
 
 pub entity_other : (placed : List Placed) (system other : ℕ) (new : Entity) → other ≢ system → entity_at (with_entity placed system new) other ≡ entity_at placed other
 entity_other [] system other new apart = refl
@@ -79,12 +73,12 @@ owners_with placed system entity new is own began = record {
   on = λ other one there_. elim (cases_eq other system) [
     | inl same ↦
         (let one_is : entity ≡ one = some_same entity one (sym is ∙ ap (entity_at placed) (sym same) ∙ there_) in
-        record { entity = new; is = ap (entity_at (with_entity placed system new)) same ∙ entity_set placed system entity new is; own_is = own ∙ ap (λ (e : Entity). e.own) one_is })
+        record { entity = new; is = ap (entity_at (with_entity placed system new)) same ∙ with_found placed system entity new is; own_is = own ∙ ap (λ (e : Entity). e.own) one_is })
     | inr apart ↦ record { entity = one; is = entity_other placed system other new apart ∙ there_; own_is = refl }
   ];
   back = λ other one there_. elim (cases_eq other system) [
     | inl same ↦
-        (let one_is : new ≡ one = some_same new one (sym (entity_set placed system entity new is) ∙ ap (entity_at (with_entity placed system new)) (sym same) ∙ there_) in
+        (let one_is : new ≡ one = some_same new one (sym (with_found placed system entity new is) ∙ ap (entity_at (with_entity placed system new)) (sym same) ∙ there_) in
         record {
           owner = record { entity = entity; is = ap (entity_at placed) same ∙ is; own_is = sym own ∙ ap (λ (e : Entity). e.own) one_is };
           began = ap (λ (e : Entity). e.restarted) (sym one_is) ∙ began;

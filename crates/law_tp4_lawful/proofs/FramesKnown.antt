@@ -20,9 +20,10 @@ use Rattle.law_tp4_history.proofs.Beginnings.{fit_times}
 use Rattle.tp4_world.specs.World.{entity_at, is_at, latest, latest_from, with_entity}
 use Rattle.tp4_world.specs.declared.place.EndAt.{EndAt}
 use Rattle.tp4_world.specs.declared.place.Placed.{Placed}
+use Rattle.tp4_world.proofs.Entities.{with_found}
 use Rattle.law_tp4_lawful.proofs.Acting.{IsLike}
 use Rattle.law_tp4_lawful.proofs.Known.{AreTerms, HaveBegun, Holds, IsEndAt, IsKnown, IsThere, Known, AreBegan}
-use Rattle.law_tp4_lawful.proofs.Frames.{AreOwners, entity_other, entity_set, place_other, place_there}
+use Rattle.law_tp4_lawful.proofs.Frames.{AreOwners, entity_other, place_other, place_there}
 use Rattle.law_tp4_lawful.proofs.Restarts.{later_began, same_began}
 
 -- what a step leaves of a history
@@ -216,7 +217,7 @@ module _ (titles : List (List ℕ)) (timers : Timers) (w : Whole) (journal : Lis
     pub holds_on : (sys : ℕ) (one : Entity) → entity_at (with_entity entities system (with_end other reference place)) sys ≡ Some one → Holds timers new one
     holds_on sys one at = elim (cases_eq sys system) [
       | inl same ↦ subst (Holds timers new)
-          (same_entity (with_end other reference place) one (sym (entity_set entities system entity (with_end other reference place) is) ∙ ap (entity_at (with_entity entities system (with_end other reference place))) (sym same) ∙ at))
+          (same_entity (with_end other reference place) one (sym (with_found entities system entity (with_end other reference place) is) ∙ ap (entity_at (with_entity entities system (with_end other reference place))) (sym same) ∙ at))
           acting_holds
       | inr apart ↦
           (let was = sym (entity_other entities system sys (with_end other reference place) apart) ∙ at in

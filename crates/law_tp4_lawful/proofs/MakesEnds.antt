@@ -29,10 +29,11 @@ use Rattle.law_tp4_history.proofs.Beginnings.{fit_times}
 use Rattle.tp4_world.specs.World.{entity_at, with_entity}
 use Rattle.tp4_world.specs.declared.place.EndAt.{EndAt}
 use Rattle.tp4_world.specs.declared.place.Placed.{Placed}
+use Rattle.tp4_world.proofs.Entities.{with_found}
 use Rattle.law_tp4_lawful.proofs.Acting.{IsLike}
 use Rattle.law_tp4_lawful.proofs.Known.{AreTerms, HaveBegun, Holds, IsKnown, IsListed, IsThere, Known, AreBegan}
 use Rattle.law_tp4_lawful.proofs.MakesFree.{Freed, kept_known}
-use Rattle.law_tp4_lawful.proofs.Frames.{entity_other, entity_set}
+use Rattle.law_tp4_lawful.proofs.Frames.{entity_other}
 use Rattle.law_tp4_lawful.proofs.MakesPlaces.{at_other, at_same, get_last, made_last}
 use Rattle.law_tp4_lawful.proofs.Restarts.{same_began}
 
@@ -220,7 +221,7 @@ module _ (titles : List (List ℕ)) (timers : Timers) (w : Whole) (journal : Lis
   was_at : (one : ℕ) (x : Entity) → entity_at (with_entity entities system after) one ≡ Some x → (old : Entity) × (entity_at entities one ≡ Some old) × (old.own ≡ x.own) × (x.restarted ≡ old.restarted)
   was_at one x has = elim (cases_eq one system) [
     | inl same ↦
-        (let it : after ≡ x = same_Some _ _ (sym (entity_set entities system entity after at) ∙ ap (entity_at (with_entity entities system after)) (sym same) ∙ has) in
+        (let it : after ≡ x = same_Some _ _ (sym (with_found entities system entity after at) ∙ ap (entity_at (with_entity entities system after)) (sym same) ∙ has) in
         (entity, ap (entity_at entities) same ∙ at, sym like.own ∙ ap (λ (y : Entity). y.own) it, ap (λ (y : Entity). y.restarted) (sym it) ∙ like.restarted))
     | inr different ↦ (x, sym (entity_other entities system one after different) ∙ has, refl, refl)
   ]
@@ -229,14 +230,14 @@ module _ (titles : List (List ℕ)) (timers : Timers) (w : Whole) (journal : Lis
   is_at one old has = elim (cases_eq one system) [
     | inl same ↦
         (let it : entity ≡ old = same_Some _ _ (sym at ∙ ap (entity_at entities) (sym same) ∙ has) in
-        (after, ap (entity_at (with_entity entities system after)) same ∙ entity_set entities system entity after at, sym (ap (λ (y : Entity). y.own) it) ∙ sym like.own))
+        (after, ap (entity_at (with_entity entities system after)) same ∙ with_found entities system entity after at, sym (ap (λ (y : Entity). y.own) it) ∙ sym like.own))
     | inr different ↦ (old, entity_other entities system one after different ∙ has, refl)
   ]
 
   holds_one : (one : ℕ) (x : Entity) → entity_at (with_entity entities system after) one ≡ Some x → Holds timers new x
   holds_one one x has = elim (cases_eq one system) [
     | inl same ↦
-        (let it : after ≡ x = same_Some _ _ (sym (entity_set entities system entity after at) ∙ ap (entity_at (with_entity entities system after)) (sym same) ∙ has) in
+        (let it : after ≡ x = same_Some _ _ (sym (with_found entities system entity after at) ∙ ap (entity_at (with_entity entities system after)) (sym same) ∙ has) in
         subst (Holds timers new) it holds_after)
     | inr different ↦
         (let old : entity_at entities one ≡ Some x = sym (entity_other entities system one after different) ∙ has in
@@ -274,7 +275,7 @@ module _ (titles : List (List ℕ)) (timers : Timers) (w : Whole) (journal : Lis
         (let place : k ≡ h.count = last.0 ∙ f.count in
         subst (IsListed new.base (with_entity entities system after) k) last.1 (record {
           entity = after;
-          entity_is = entity_set entities system entity after at;
+          entity_is = with_found entities system entity after at;
           address = ap (λ (i : ℕ). (new.base.end i).birth.address) place ∙ ap (λ (y : Seen). y.birth.address) here ∙ address ∙ sym like.own;
           reference = ap (λ (i : ℕ). (new.base.end i).birth.reference) place ∙ ap (λ (y : Seen). y.birth.reference) here ∙ ref;
         }))

@@ -1,5 +1,5 @@
 -- A TPDU comes that is no CR: the end that it matches takes it, or the entity tells it, and answers a CC and a DR.
-use Rattle.std.proofs.Common.{◌≡◌, ◌==◌, ◌&&◌, inl, inr, ℕ, zero, suc, ◌+◌, ◌≤◌, Bool, true, false, List, [], ◌∷◌, Option, Some, None, refl, sym, ap, subst, ◌∙◌, arith, Contains}
+use Rattle.std.proofs.Common.{◌≡◌, ◌==◌, ◌&&◌, inl, inr, ℕ, ◌+◌, ◌≤◌, Bool, true, false, List, [], ◌∷◌, Option, Some, None, refl, sym, ap, subst, ◌∙◌, arith, Contains}
 use Rattle.std.specs.Prelude.{if◌then◌else◌}
 use Rattle.std.proofs.lemmas.Bool.{eqb-false}
 use Rattle.script_journal.specs.declared.event.Event.{Event}
@@ -28,7 +28,7 @@ use Rattle.tp4_entity.specs.steps.Places.{format_of}
 use Rattle.tp4_entity.proofs.Formats.{format_is}
 use Rattle.law_tp4_history.specs.Ends.{Times, Terms, Cc, Dr, Flow, Tpdu, Offer, Sent as SentBy}
 use Rattle.law_tp4_history.specs.History.{IsPartner, IsTaken, answers_to}
-use Rattle.law_tp4_history.specs.Journals.{IsAside, MakesNone, makes_end}
+use Rattle.law_tp4_history.specs.Journals.{IsAside}
 use Rattle.law_tp4_history.specs.Tracks.{Track, Whole, IsTold}
 use Rattle.law_tp4_history.proofs.Agreed.{Agreed, in_format}
 use Rattle.law_tp4_history.proofs.Meets.{Meets, Of_partner, Of_entity, meets, swap}
@@ -41,6 +41,8 @@ use Rattle.law_tp4_history.specs.Moves.{times_of}
 use Rattle.law_tp4_history.specs.Seen.{IsNumbered, seen}
 use Rattle.law_tp4_history.proofs.Beginnings.{fit_times}
 use Rattle.law_tp4_history.proofs.Sources.{read_sourced}
+use Rattle.law_tp4_history.proofs.FlowRows.{same_format}
+use Rattle.law_tp4_history.proofs.WorkedSteps.{one_event}
 use Rattle.tp4_world.specs.Telling.{events_after}
 use Rattle.tp4_world.specs.World.{entity_at}
 use Rattle.tp4_world.specs.declared.place.EndAt.{EndAt}
@@ -49,7 +51,7 @@ use Rattle.law_tp4_lawful.proofs.Acting.{Acts}
 use Rattle.law_tp4_lawful.proofs.Known.{AreTerms, IsKnown, IsOffered, IsReadAs, IsThere, Known}
 use Rattle.law_tp4_lawful.proofs.Worlds.{Follows}
 use Rattle.law_tp4_lawful.proofs.MeetsAside.{noted, replied}
-use Rattle.law_tp4_lawful.proofs.ReferencesMet.{agreed_is, is_flow, no_request, same_format, target_of}
+use Rattle.law_tp4_lawful.proofs.ReferencesMet.{agreed_is, is_flow, no_request, target_of}
 
 -- what an end has to know of an offer that it takes
 abbrev pub KnowsTaken : Type 0
@@ -60,10 +62,6 @@ KnowsTaken = (times : Times) (w : Whole) (terms : Terms) (b : EndRecord) (stage 
 both : (a b : Bool) → (a && b) ≡ true → b ≡ true
 both true b h = h
 both false b h = absurd cc
-
-one_event : (event : Event) → makes_end event ≡ false → MakesNone (event ∷ [])
-one_event event is zero d low = is
-one_event event is (suc k) d low = absurd (omega (arith, low))
 
 module _ (titles : List (List ℕ)) (timers : Timers) (w : Whole) (journal : List Event) (entities : List Placed) (ends : List EndAt) (known : Known titles timers w journal entities ends)
     (system : ℕ) (entity : Entity) (at : entity_at entities system ≡ Some entity)

@@ -28,6 +28,7 @@ use Rattle.law_tp4_history.proofs.Agreed.{in_format}
 use Rattle.law_tp4_history.proofs.Written.{Kept}
 use Rattle.law_tp4_history.specs.Moves.{times_of}
 use Rattle.law_tp4_history.specs.Seen.{IsNumbered, seen, terms_of}
+use Rattle.law_tp4_history.proofs.FlowRows.{same_format}
 use Rattle.tp4_world.specs.World.{World}
 use Rattle.law_tp4_lawful.specs.References.{ComesTo}
 use Rattle.law_tp4_lawful.proofs.Known.{IsKnown, IsReadAs, IsThere}
@@ -50,12 +51,6 @@ is_flow (wires.Ed destination last number text) n h = refl
 is_flow (wires.Ak destination number credit subsequence confirmation) n h = refl
 is_flow (wires.Ea destination number) n h = refl
 is_flow other n h = absurd cc
-
-pub same_format : (one other : Format) → is_extended one ≡ is_extended other → one ≡ other
-same_format formats.Normal formats.Normal h = refl
-same_format formats.Normal formats.Extended h = absurd (cc h)
-same_format formats.Extended formats.Normal h = absurd (cc h)
-same_format formats.Extended formats.Extended h = refl
 
 -- the format that was agreed
 pub agreed_is : (agreed : Option Options) (terms : Terms) (b : Bool) → option_map terms_of agreed ≡ Some terms → b ≡ terms.is_extended → b ≡ is_extended (agreed_format agreed)

@@ -10,15 +10,15 @@ use Rattle.tpdu.specs.declared.tpdu.Tpdu.{Tpdu}
 use Rattle.tp4_number.specs.Formats.{block_of}
 use Rattle.tpdu.specs.declared.service.Options.{Options}
 use Rattle.tp4_conn.specs.declared.end_record.EndRecord.{EndRecord}
-use Rattle.tp4_conn.specs.declared.states.StateData.{StateData}
 use Rattle.tp4_conn.specs.declared.states.StateData.TheVariants as stages
 use Rattle.tp4_conn.specs.declared.timers.Timers.{Timers}
 use Rattle.tp4_conn.specs.End.{End, agreed_format}
-use Rattle.tp4_conn.specs.Matching.{fits, is_match}
-use Rattle.tp4_conn.specs.Wire.{end_on_wire, stage_on_wire}
+use Rattle.tp4_conn.specs.Matching.{is_match}
+use Rattle.tp4_conn.specs.Wire.{end_on_wire}
 use Rattle.tp4_entity.specs.Entity.{Entity, end_at, there}
 use Rattle.tp4_entity.specs.Unit.{EndsWith, Separates, extended_of}
 use Rattle.tp4_entity.specs.Wire.{entity_on_wire}
+use Rattle.tp4_entity.proofs.Wires.{fits_on}
 use Rattle.law_tp4_history.specs.Tracks.{Whole}
 use Rattle.tp4_world.specs.Wire.{world_on_wire}
 use Rattle.tp4_world.specs.World.{World}
@@ -30,11 +30,11 @@ use Rattle.law_tp4_lawful.proofs.ReferencesSizes.{agreed_at, sizes}
 
 -- ---- an end over wire numbers
 
-on_place : (place : Option (Option End)) → there (option_map (option_map end_on_wire) place) ≡ option_map end_on_wire (there place)
+pub on_place : (place : Option (Option End)) → there (option_map (option_map end_on_wire) place) ≡ option_map end_on_wire (there place)
 on_place None = refl
 on_place (Some end) = refl
 
-end_on : (e : Entity) (reference : ℕ) → end_at (entity_on_wire e) reference ≡ option_map end_on_wire (end_at e reference)
+pub end_on : (e : Entity) (reference : ℕ) → end_at (entity_on_wire e) reference ≡ option_map end_on_wire (end_at e reference)
 end_on e reference = by_zero (reference == 0)
   where
     by_zero : (none : Bool) → (if none then None else there (slice_get (map (option_map end_on_wire) e.ends) (reference - 1))) ≡ option_map end_on_wire (if none then None else there (slice_get e.ends (reference - 1)))
@@ -53,10 +53,6 @@ upper_end e reference lower is = by (end_at e reference) refl (sym (end_on e ref
     by : (place : Option End) → end_at e reference ≡ place → option_map end_on_wire place ≡ Some lower → IsUpper e reference lower
     by None at same = absurd (none-some _ same)
     by (Some end) at same = record { end = end; stands = at; is = sym (same_Some _ _ same) }
-
-fits_on : (b : EndRecord) (stage : StateData) (tpdu : Tpdu) → fits b (stage_on_wire stage) tpdu ≡ fits b stage tpdu
-fits_on b (stages.CrWait w) tpdu = refl
-fits_on b other tpdu = refl
 
 match_on : (e : End) (from : List ℕ) (tpdu : Tpdu) → is_match (end_on_wire e).base (end_on_wire e).stage from tpdu ≡ is_match e.base e.stage from tpdu
 match_on e from tpdu = ap (λ (b : Bool). pointwise nat_eq e.base.to from && b) (fits_on e.base e.stage tpdu)

@@ -7,6 +7,7 @@ use Rattle.tpdu.specs.Values.{TpduAndSum}
 use Rattle.tpdu.specs.Writing.{kind_for}
 use Rattle.tpdu.specs.declared.tpdu.Tpdu.{Tpdu}
 use Rattle.tpdu.specs.declared.tpdu.Tpdu.TheVariants as wires
+use Rattle.tp4_number.proofs.Past.{if_kept}
 use Rattle.tp4_flow.specs.declared.step.EndEvent.{EndEvent}
 use Rattle.tp4_flow.specs.declared.step.What.{What}
 use Rattle.tp4_flow.specs.declared.step.What.TheVariants as whats
@@ -18,7 +19,6 @@ use Rattle.tp4_conn.specs.End.{End, Moved, end_of, frozen_for}
 use Rattle.tp4_conn.specs.Making.{called_end, connected, indicated}
 use Rattle.tp4_conn.specs.Matching.{is_match}
 use Rattle.tp4_conn.specs.Table.{Called, Ticked, Took, due, stepped}
-use Rattle.tp4_conn.proofs.Timely.{if_kept}
 use Rattle.tp4_entity.specs.Association.{is_called, is_registered, met, met_at, met_by, new_end, requested, unmatched}
 use Rattle.tp4_entity.specs.Entity.{Acted, Entity, at, end_at, moved, there, with_end}
 use Rattle.tp4_entity.specs.References.{least_free}
@@ -32,11 +32,12 @@ use Rattle.tp4_world.specs.World.{entity_at, latest, with_entity}
 use Rattle.tp4_world.specs.declared.place.EndAt.{EndAt}
 use Rattle.tp4_world.specs.declared.place.Placed.{Placed}
 use Rattle.tp4_world.proofs.Having.{with_any}
+use Rattle.tp4_world.proofs.Entities.{with_found}
 use Rattle.law_tp4_lawful.proofs.Silence.{BeginsEnd, Goes, IsLongAgo, IsStanding, Kind, Makes, Making, Noting, Of, Other, Quietly, Runs, Seen, Stays, Step, Stops, Telling, kind_of, kinds_of, last_restart, told_by}
 use Rattle.law_tp4_lawful.proofs.ActsRows.{AreTold, IsRowOf, IsTold, row_of}
 use Rattle.law_tp4_lawful.specs.Own.{IsEndOf}
 use Rattle.law_tp4_lawful.proofs.ActsTold.{ends_stay}
-use Rattle.law_tp4_lawful.proofs.Frames.{entity_other, entity_set}
+use Rattle.law_tp4_lawful.proofs.Frames.{entity_other}
 use Rattle.law_tp4_lawful.proofs.MakesPlaces.{latest_last}
 use Rattle.law_tp4_lawful.proofs.SilenceSteps.{map_append}
 use Rattle.law_tp4_lawful.proofs.WorldPlaces.{with_again}
@@ -84,7 +85,7 @@ only_end reference one end is h = let same : one ≡ end = cc h in subst (IsEndO
 row_end : (reference : ℕ) (m : Moved) → IsRowOf reference m → (end : End) → Some (end_of m) ≡ Some end → IsEndOf reference end
 row_end reference m row end h = only_end reference (end_of m) end (row.base, row.stage) h
 
-kept_row : (reference : ℕ) (m : Moved) (next : Option ℕ) → IsRowOf reference m → (end : End) → kept_end m next ≡ Some end → IsEndOf reference end
+pub kept_row : (reference : ℕ) (m : Moved) (next : Option ℕ) → IsRowOf reference m → (end : End) → kept_end m next ≡ Some end → IsEndOf reference end
 kept_row reference m None row end h = absurd (cc h)
 kept_row reference m (Some tick) row end h = row_end reference m row end h
 
@@ -150,7 +151,7 @@ module _ (frozen : ℕ) (system : ℕ) (address : List ℕ) where
       restart_same : (other : ℕ) → last_restart (entity_at (with_entity entities system new) other) ≡ last_restart (entity_at entities other)
       restart_same other = elim (cases_eq other system) [
         | inl same ↦
-            (let first : entity_at (with_entity entities system new) other ≡ Some new = ap (entity_at (with_entity entities system new)) same ∙ entity_set entities system e new is in
+            (let first : entity_at (with_entity entities system new) other ≡ Some new = ap (entity_at (with_entity entities system new)) same ∙ with_found entities system e new is in
             let was : entity_at entities other ≡ Some e = ap (entity_at entities) same ∙ is in
             ap last_restart first ∙ began ∙ sym (ap last_restart was))
         | inr apart ↦ ap last_restart (entity_other entities system other new apart)
@@ -222,7 +223,7 @@ module _ (frozen : ℕ) (system : ℕ) (address : List ℕ) where
           let after : Runs frozen middle (kinds_of rest) last =
           subst (λ (es : List EndAt). Runs frozen middle (kinds_of rest) (record { clock = now; entities = with_entity entities system new; ends = es })) (sym (ends_append ends system xs ys))
           (subst (λ (ps : List Placed). Runs frozen middle (kinds_of rest) (record { clock = now; entities = ps; ends = ends_after (ends_after ends system xs) system ys })) (with_again entities system mid new)
-          (two.runs (with_entity entities system mid) (ends_after ends system xs) (entity_set entities system e mid is))) in
+          (two.runs (with_entity entities system mid) (ends_after ends system xs) (with_found entities system e mid is))) in
           subst (λ (ks : List Kind). Runs frozen first ks last) (sym (ap kinds_of (events_append ends system address xs ys) ∙ map_append here rest))
           (runs_then frozen first middle last (kinds_of here) (kinds_of rest) (one.runs entities ends is) after));
     }

@@ -53,10 +53,11 @@ use Rattle.tp4_world.specs.World.{World, end_numbered, entity_at, latest, with_e
 use Rattle.tp4_world.specs.declared.place.EndAt.{EndAt}
 use Rattle.tp4_world.specs.declared.place.Placed.{Placed}
 use Rattle.tp4_world.proofs.Having.{with_any}
+use Rattle.tp4_world.proofs.Entities.{with_found}
 use Rattle.law_tp4_lawful.specs.Laws.{CallsAreSilent}
 use Rattle.law_tp4_lawful.specs.First.{IsUntouched}
 use Rattle.law_tp4_lawful.proofs.Silence.{Begins, BeginsAgain, Clock, Goes, IsStanding, IsUnused, Kind, Makes, Noting, Of, Other, Restarting, Runs, Seen, Stays, Stops, Telling, Ticking, kind_of, kinds_of, last_restart}
-use Rattle.law_tp4_lawful.proofs.Frames.{entity_other, entity_set}
+use Rattle.law_tp4_lawful.proofs.Frames.{entity_other}
 use Rattle.law_tp4_lawful.proofs.ReferencesSince.{passed, raw_sent, sent_all}
 use Rattle.law_tp4_lawful.proofs.SilenceEntities.{AreOf, Connected, Did, did_call, did_connect, did_take, did_tick, past_by, runs_then, stays_same}
 use Rattle.law_tp4_lawful.proofs.SilenceSteps.{keeps_silence, keeps_silent, map_append}
@@ -118,7 +119,7 @@ call_run frozen s system reference number call is at = by call
     by (asks.Window credit) = Stops s
     by other = names
 
-number_by : (same : Bool) (one number : ℕ) (rest : Bool) → (one == number) ≡ same → (not same || rest) ≡ false → one ≡ number
+pub number_by : (same : Bool) (one number : ℕ) (rest : Bool) → (one == number) ≡ same → (not same || rest) ≡ false → one ≡ number
 number_by true one number rest is ended = eqb-true one number is
 number_by false one number rest is ended = absurd (cc ended)
 
@@ -242,7 +243,7 @@ module _ (timers : Timers) {C : Type 0} (link : C → Link (List ℕ)) (steps : 
       let next : Entity = restarted now entity in
       let placed : List Placed = with_entity old.entities system next in
       let last : Seen = record { clock = now; entities = placed; ends = old.ends } in
-      let here : entity_at placed system ≡ Some next = entity_set old.entities system entity next s.1 in
+      let here : entity_at placed system ≡ Some next = with_found old.entities system entity next s.1 in
       let none : (r : ℕ) → IsStanding last system r → ⊥ = λ r at.
       none_some at.end (sym (none_stands now r entity) ∙ ap (λ (x : Entity). end_at x r) (some_same next at.entity (sym here ∙ at.there)) ∙ at.stands) in
       let again : BeginsAgain system (seen_of old) last = record {

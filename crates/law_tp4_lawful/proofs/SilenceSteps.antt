@@ -8,6 +8,7 @@ use Rattle.script_journal.specs.declared.event.Event.{Event}
 use Rattle.script_journal.specs.declared.event.Event.TheVariants as events
 use Rattle.tp4_world.specs.World.{is_at, latest, latest_from}
 use Rattle.tp4_world.specs.declared.place.EndAt.{EndAt}
+use Rattle.tp4_world.proofs.Latest.{latest_last}
 use Rattle.law_tp4_lawful.proofs.Silence.{AreSilent, Begins, Clock, Goes, IsLongAgo, IsOf, IsStanding, IsUnused, Kind, Makes, Making, Noting, Of, Other, Quietly, Restarting, Runs, Seen, Stays, Step, Stops, Telling, Ticking, clock_after, clock_from, kind_of, kinds_of, restarted_at, tick_after, told_by}
 
 -- ---- lists
@@ -56,14 +57,7 @@ latest_there next seen (one ∷ ends) system reference = by (λ now. latest_ther
           | inr later ↦ inr (suc later.0, later.1, here ∙ later.2 ∙ omega arith, later.3, later.4)
         ]
 
-latest_last : (next seen : ℕ) (ends : List EndAt) (end : EndAt) (system reference : ℕ)
-    → latest_from next seen (ends ++ end ∷ []) system reference ≡ (if is_at system reference end then next + length ends else latest_from next seen ends system reference)
-latest_last next seen [] end system reference = ap (λ (n : ℕ). if is_at system reference end then n else seen) (omega arith)
-latest_last next seen (one ∷ ends) end system reference =
-    latest_last (next + 1) (if is_at system reference one then next else seen) ends end system reference
-    ∙ ap (λ (n : ℕ). if is_at system reference end then n else latest_from (next + 1) (if is_at system reference one then next else seen) ends system reference) (omega arith)
-
-get_more : (ends : List EndAt) (end one : EndAt) (k : ℕ) → slice_get ends k ≡ Some one → slice_get (ends ++ end ∷ []) k ≡ Some one
+pub get_more : (ends : List EndAt) (end one : EndAt) (k : ℕ) → slice_get ends k ≡ Some one → slice_get (ends ++ end ∷ []) k ≡ Some one
 get_more [] end one k h = absurd (cc h)
 get_more (first ∷ ends) end one zero h = h
 get_more (first ∷ ends) end one (suc k) h = get_more ends end one k h

@@ -16,9 +16,9 @@ use Rattle.osi_base.specs.declared.unit.Up.TheVariants.{Unit as Came, Note as No
 use Rattle.script_journal.specs.Lawful.{Marked, shown, submitted}
 use Rattle.script_journal.specs.declared.event.Event.{Event}
 use Rattle.script_journal.specs.declared.event.Event.TheVariants as events
+use Rattle.script_journal.proofs.Showing.{shown_both, submitted_both}
 use Rattle.net_world.specs.Told.{picked_event, sent_event, shown_at, told}
 use Rattle.law_tp4_history.specs.Journals.{IsAside, makes_end}
-use Rattle.law_tp4_history.proofs.Appended.{shown-append, submitted-append}
 use Rattle.tp4_world.specs.Telling.{drop_events, inject_event}
 
 -- the event tells no unit and makes no end
@@ -36,11 +36,11 @@ quiet_append (x ∷ xs) ys p q = (p.0, quiet_append xs ys p.1 q)
 
 no_submitted : (made : List Event) → AreQuiet made → (end : ℕ) → submitted end made ≡ []
 no_submitted [] all end = refl
-no_submitted (event ∷ made) all end = submitted-append end (event ∷ []) made ∙ ap (λ (us : List Marked). us ++ submitted end made) (all.0.submits end) ∙ no_submitted made all.1 end
+no_submitted (event ∷ made) all end = submitted_both end (event ∷ []) made ∙ ap (λ (us : List Marked). us ++ submitted end made) (all.0.submits end) ∙ no_submitted made all.1 end
 
 no_shown : (made : List Event) → AreQuiet made → (end : ℕ) → shown end made ≡ []
 no_shown [] all end = refl
-no_shown (event ∷ made) all end = shown-append end (event ∷ []) made ∙ ap (λ (us : List Marked). us ++ shown end made) (all.0.shows end) ∙ no_shown made all.1 end
+no_shown (event ∷ made) all end = shown_both end (event ∷ []) made ∙ ap (λ (us : List Marked). us ++ shown end made) (all.0.shows end) ∙ no_shown made all.1 end
 
 none_made : (made : List Event) → AreQuiet made → AllByRecursion (λ (event : Event). makes_end event ≡ false) made
 none_made [] all = tt

@@ -9,7 +9,6 @@ use Rattle.script_journal.specs.declared.event.Event.{Event}
 use Rattle.script_journal.specs.declared.event.Event.TheVariants as events
 use Rattle.tp4_conn.specs.declared.timers.Timers.{Timers}
 use Rattle.tp4_conn.specs.End.{End}
-use Rattle.tp4_conn.proofs.Timely.{if_kept}
 use Rattle.tp4_entity.specs.Entity.{Entity, end_at}
 use Rattle.tp4_entity.specs.Step.{first_due, restarted}
 use Rattle.tp4_entity.proofs.Restarts.{none_stands}
@@ -23,12 +22,14 @@ use Rattle.tp4_world.specs.Run.{Restarts}
 use Rattle.tp4_world.specs.World.{World, entity_at, with_entity}
 use Rattle.tp4_world.specs.declared.place.EndAt.{EndAt}
 use Rattle.tp4_world.specs.declared.place.Placed.{Placed}
+use Rattle.tp4_world.proofs.Entities.{with_found}
 use Rattle.nsap.specs.Address.{is_same_system}
+use Rattle.tp4_number.proofs.Past.{if_kept}
 use Rattle.law_tp4_lawful.proofs.Known.{AreBegan, Holds, IsListed, IsThere, Known}
 use Rattle.law_tp4_lawful.proofs.Along as along
 use Rattle.law_tp4_lawful.proofs.Along.{AreAtRest, IsKept, Knowing, Offering}
 use Rattle.law_tp4_lawful.proofs.Worlds.{AfterRestart}
-use Rattle.law_tp4_lawful.proofs.Frames.{entity_other, entity_set}
+use Rattle.law_tp4_lawful.proofs.Frames.{entity_other}
 use Rattle.law_tp4_lawful.proofs.MakesFree.{caller_before, kept_known, partner_before, terms_before, same_address}
 use Rattle.law_tp4_lawful.proofs.Restarts.{again_began, other_began}
 use Rattle.law_tp4_lawful.proofs.WorldActs.{Went}
@@ -114,7 +115,7 @@ module _ (titles : List (List ℕ)) (timers : Timers) (w : Whole) (journal : Lis
   was : (other : ℕ) (x : Entity) → entity_at (with_entity entities system next) other ≡ Some x
       → ((other ≡ system) × (next ≡ x)) ⊎ ((other ≢ system) × (entity_at entities other ≡ Some x))
   was other x is = elim (cases_eq other system) [
-    | inl same ↦ inl (same, some_same next x (sym (entity_set entities system entity next at) ∙ ap (entity_at (with_entity entities system next)) (sym same) ∙ is))
+    | inl same ↦ inl (same, some_same next x (sym (with_found entities system entity next at) ∙ ap (entity_at (with_entity entities system next)) (sym same) ∙ is))
     | inr apart ↦ inr (apart, sym (entity_other entities system other next apart) ∙ is)
   ]
 
@@ -141,7 +142,7 @@ module _ (titles : List (List ℕ)) (timers : Timers) (w : Whole) (journal : Lis
         (let one : l.entity ≡ entity = some_same l.entity entity (sym l.entity_is ∙ ap (entity_at entities) same ∙ at) in
         record {
           entity = next;
-          entity_is = ap (entity_at (with_entity entities system next)) same ∙ entity_set entities system entity next at;
+          entity_is = ap (entity_at (with_entity entities system next)) same ∙ with_found entities system entity next at;
           address = ap (λ (x : Birth). x.address) (born k) ∙ l.address ∙ ap (λ (x : Entity). x.own) one;
           reference = ap (λ (x : Birth). x.reference) (born k) ∙ l.reference;
         })

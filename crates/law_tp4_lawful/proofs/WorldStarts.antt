@@ -76,7 +76,7 @@ found P (one ∷ placed) system e all is = by_first (is_of system one) refl is (
     by_first true at is rest = record { one = one; system_is = eqb-true one.system system at; entity_is = some_same one.entity e is; holds = all.0 }
     by_first false at is rest = rest is
 
-none_there : (ends : List (Option End)) → AllByRecursion (λ place. place ≡ None) ends → (n : ℕ) → there (slice_get ends n) ≡ None
+pub none_there : (ends : List (Option End)) → AllByRecursion (λ place. place ≡ None) ends → (n : ℕ) → there (slice_get ends n) ≡ None
 none_there [] none n = refl
 none_there (place ∷ ends) none zero = ap (λ (p : Option End). there (Some p)) none.0
 none_there (place ∷ ends) none (suc n) = none_there ends none.1 n

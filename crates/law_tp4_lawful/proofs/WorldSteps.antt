@@ -9,14 +9,13 @@ use Rattle.tp4_conn.specs.Calls.{call_refusal}
 use Rattle.tp4_conn.specs.End.{End as ConnEnd, Moved, end_of, frozen_for}
 use Rattle.tp4_conn.specs.Table.{Called, Ticked, due, on_tick, stepped}
 use Rattle.tp4_conn.specs.declared.end_record.EndRecord.{EndRecord}
-use Rattle.tp4_conn.specs.declared.call.CallRefusal.{CallRefusal}
 use Rattle.tp4_conn.specs.declared.states.StateData.{StateData}
 use Rattle.tp4_conn.specs.declared.states.StateData.TheVariants.{Frozen}
 use Rattle.tp4_conn.specs.declared.timers.Timers.{Timers}
 use Rattle.tp4_entity.specs.Entity.{Acted, Entity, at, end_at, moved, with_end}
 use Rattle.tp4_entity.specs.References.{is_free}
 use Rattle.tp4_entity.specs.Standing.{Empty, Goes, IsFreeAt, Moves, Over, Stays}
-use Rattle.tp4_entity.specs.Step.{calling, calling_end, end_refusal, kept_end, refused_by, ticked_to, ticking, ticking_at, ticking_end}
+use Rattle.tp4_entity.specs.Step.{calling, calling_end, end_refusal, kept_end, ticked_to, ticking, ticking_at, ticking_end}
 use Rattle.tp4_entity.proofs.Standings.{ticking_keeps}
 use Rattle.law_tp4_history.specs.Ends.{End, frozen}
 use Rattle.law_tp4_history.specs.History.{IsFree, May, Release}
@@ -41,6 +40,7 @@ use Rattle.law_tp4_lawful.proofs.WorldHears.{acted_same}
 use Rattle.law_tp4_lawful.proofs.WorldKnown.{known_at}
 use Rattle.law_tp4_lawful.proofs.WorldPlaces.{none_some}
 use Rattle.std.specs.Prelude.{is_none}
+use Rattle.law_tp4_proper.proofs.Ends.{not_refused}
 
 -- the same entity at another tick
 like_at : (now : ℕ) (entity : Entity) → IsLike now entity (at now entity)
@@ -48,16 +48,12 @@ like_at now entity = record { own = refl; timers = refl; ends = refl; restarted 
 
 -- ---- a call
 
-latest_is : (found number : ℕ) (gone : Bool) → (not (found == number) || gone) ≡ false → found ≡ number
+pub latest_is : (found number : ℕ) (gone : Bool) → (not (found == number) || gone) ≡ false → found ≡ number
 latest_is found number gone is = by_same (found == number) refl is
   where
     by_same : (same : Bool) → (found == number) ≡ same → (not same || gone) ≡ false → found ≡ number
     by_same true at is = grind arith
     by_same false at is = absurd cc
-
-not_refused : (why : Option CallRefusal) → refused_by why ≡ None → why ≡ None
-not_refused None is = refl
-not_refused (Some why) is = absurd cc
 
 pub after_call : (titles : List (List ℕ)) (timers : Timers) → Acts titles timers → AfterCall titles timers
 after_call titles timers acts w journal entities ends number end entity call known numbered is ended allowed proper =

@@ -27,7 +27,7 @@ use Rattle.law_tp4_lawful.proofs.WorldFloats.{tick_goes}
 use Rattle.law_tp4_lawful.proofs.WorldPlaces.{some_same}
 use Rattle.tp4_world.proofs.Having.{found_any, with_first, with_other}
 
-turned : (n m : ℕ) (b : Bool) → (n == m) ≡ b → (m == n) ≡ b
+pub turned : (n m : ℕ) (b : Bool) → (n == m) ≡ b → (m == n) ≡ b
 turned n m true is = grind arith
 turned n m false is = grind arith
 

@@ -1,7 +1,7 @@
 -- What each end keeps is kept by all ends of an entity, since a step changes one place at most; and none is due exactly where each is due later.
 use Rattle.std.proofs.Common.{◌≡◌, ◌⊎◌, inl, inr, ◌==◌, not, nat_lt, ℕ, zero, suc, ◌+◌, ◌-◌, ◌<◌, ◌≤◌, Bool, true, false, cond, List, [], ◌∷◌, length, slice_get, slice_set, replicate, option_map, Option, Some, None, refl, sym, ap, subst, ◌∙◌, arith}
 use Rattle.std.specs.List.{list_any, position, position_or_len}
-use Rattle.std.proofs.lemmas.Bool.{leb-false, lt-leb, ltb-false}
+use Rattle.std.proofs.lemmas.Bool.{lt-leb, ltb-false}
 use Rattle.std.proofs.lemmas.Option.{none-some}
 use Rattle.tpdu.specs.Values.{TpduAndSum, destination_of, format_for}
 use Rattle.tpdu.specs.Writing.{IsAllowed}
@@ -9,6 +9,7 @@ use Rattle.tpdu.specs.declared.tpdu.Format.{Format}
 use Rattle.tpdu.specs.declared.tpdu.Format.TheVariants.{Normal as Plain}
 use Rattle.tpdu.specs.declared.tpdu.Tpdu.{Tpdu}
 use Rattle.tpdu.specs.declared.tpdu.Tpdu.TheVariants.{Cr, Cc, Dr, Dc, Dt, Ed, Ak, Ea, Er}
+use Rattle.tp4_number.proofs.Past.{if_kept}
 use Rattle.tp4_flow.specs.declared.step.Sent.{Sent}
 use Rattle.tp4_conn.specs.Calls.{IsCall, call_refusal}
 use Rattle.tp4_conn.specs.Dues.{IsBefore}
@@ -22,7 +23,6 @@ use Rattle.tp4_conn.specs.declared.call.CallRefusal.{CallRefusal}
 use Rattle.tp4_conn.specs.declared.call.ConnectRequest.{ConnectRequest}
 use Rattle.tp4_conn.specs.declared.call.UserCall.{UserCall}
 use Rattle.tp4_conn.specs.declared.timers.Timers.{Timers}
-use Rattle.tp4_conn.proofs.Timely.{if_kept}
 use Rattle.tp4_entity.specs.Association.{answers, calls, is_called, is_registered, met, met_by, new_end, refusal, requested, stateless, unmatched}
 use Rattle.tp4_entity.specs.Entity.{Acted, Entity, at, end_at, moved, there, with_end}
 use Rattle.tp4_entity.specs.References.{least_free}
@@ -31,8 +31,10 @@ use Rattle.tp4_entity.specs.Unit.{extended_of}
 use Rattle.tp4_entity.specs.steps.Places.{format_of}
 use Rattle.tp4_entity.proofs.Formats.{format_is}
 use Rattle.tp4_entity.proofs.PlaceLaws.{Place, end_at_of, no_position}
+use Rattle.tp4_entity.proofs.Dues.{before_by, before_in_time, before_next}
+use Rattle.tp4_entity.proofs.Units.{there_is}
 use Rattle.law_tp4_proper.specs.Rest.{AreInTime, AreProper, IsAtRest, IsProperEnd, IsProperStep, IsProperTick}
-use Rattle.law_tp4_proper.proofs.Rows.{Rests, StepRests, before_in_time, called_rests, connected_rests, indicated_rests, next_in_time, ticked_later, ticked_rests, took_rests}
+use Rattle.law_tp4_proper.proofs.Rows.{Rests, StepRests, called_rests, connected_rests, indicated_rests, ticked_later, ticked_rests, took_rests}
 
 -- ---- one place changes
 
@@ -89,24 +91,16 @@ past_all test places h = by (nat_lt (position_or_len test places) (length places
     by true is h = absurd (none-some _ (sym h))
     by false is h = ltb-false _ _ is
 
-not_by : (next : Option ℕ) (now : ℕ) → is_due_by now next ≡ false → IsBefore next now
-not_by None now h = tt
-not_by (Some tick) now h = leb-false tick now h
-
 by_later : (next : Option ℕ) (now : ℕ) → IsBefore next now → is_due_by now next ≡ false
 by_later None now h = refl
 by_later (Some tick) now h = lt-leb tick now h
-
-there_is : (found : Option Place) (end : End) → there found ≡ Some end → found ≡ Some (Some end)
-there_is None end h = absurd (none-some _ h)
-there_is (Some place) end h = ap (λ (p : Place). Some p) h
 
 idle_later : (now : ℕ) (e : Entity) → first_due now e ≡ None → (reference : ℕ) (end : End) → end_at e reference ≡ Some end → IsBefore (due end.base end.stage) now
 idle_later now e idle zero end h = absurd cc
 idle_later now e idle (suc k) end h =
     let none : position (is_due now) e.ends ≡ None = no_place (position (is_due now) e.ends) idle in
     let get : slice_get e.ends k ≡ Some (Some end) = there_is (slice_get e.ends k) end (sym (end_at_of e (suc k) k (omega arith)) ∙ h) in
-    not_by (due end.base end.stage) now (none_pass (is_due now) e.ends k (Some end) (past_all (is_due now) e.ends none) get)
+    before_by (due end.base end.stage) now (none_pass (is_due now) e.ends k (Some end) (past_all (is_due now) e.ends none) get)
 
 later_idle : (now : ℕ) (e : Entity) → ((reference : ℕ) (end : End) → end_at e reference ≡ Some end → IsBefore (due end.base end.stage) now) → first_due now e ≡ None
 later_idle now e all = ap (option_map (λ (place : ℕ). place + 1)) (no_position (is_due now) e.ends each)
@@ -156,7 +150,7 @@ pub connecting_rests : (now reference : ℕ) (e : Entity) (request : ConnectRequ
     → IsProperStep now (connecting now e reference request)
 connecting_rests now reference e request r free proper = moved_rest now (at now e) reference (connected now (call_of e reference request)) (clocked now now e r) (connected_rests now (call_of e reference request) proper)
 
-not_refused : (why : Option CallRefusal) → refused_by why ≡ None → why ≡ None
+pub not_refused : (why : Option CallRefusal) → refused_by why ≡ None → why ≡ None
 not_refused None h = refl
 not_refused (Some why) h = absurd (none-some _ (sym h))
 
@@ -285,7 +279,7 @@ ticking_proper wrap now e p soon = tick_at wrap now (at now e) (first_due now e)
 pub waits : (now : ℕ) (e : Entity) → first_due now e ≡ None → AreInTime now e × AreInTime (now + 1) e
 waits now e idle = (
   λ reference end h. before_in_time (due end.base end.stage) now (idle_later now e idle reference end h),
-  λ reference end h. next_in_time (due end.base end.stage) now (idle_later now e idle reference end h),
+  λ reference end h. before_next (due end.base end.stage) now (idle_later now e idle reference end h),
 )
 
 -- the end that ticked

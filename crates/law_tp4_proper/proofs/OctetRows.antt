@@ -7,6 +7,7 @@ use Rattle.tpdu.specs.declared.tpdu.Tpdu.TheVariants.{Cr, Cc, Dr, Dc, Dt, Ed, Ak
 use Rattle.tp4_number.specs.declared.got.Got.{Got}
 use Rattle.tp4_number.specs.declared.got.Got.TheVariants.{Kept, Old, Outside, TooLarge}
 use Rattle.tp4_number.specs.declared.piece.Piece.{Piece}
+use Rattle.tp4_number.proofs.Past.{if_kept}
 use Rattle.tp4_flow.specs.ReceivingHalf.{Half, Received, ak, dt_arrival, half_granted, taken_dt, taken_ed}
 use Rattle.tp4_flow.specs.declared.rules.Life.{Life as Ends}
 use Rattle.tp4_flow.specs.declared.rules.Life.TheVariants.{Goes, Exhausted}
@@ -39,7 +40,6 @@ use Rattle.tp4_conn.specs.Table.{Called, Ticked, Took, on_call, on_tick, on_tpdu
 use Rattle.tp4_conn.specs.Table.{at as base_at}
 use Rattle.tp4_conn.specs.UserWait.{refusing, user_wait_accept, user_wait_refuse, user_wait_tick}
 use Rattle.tp4_conn.specs.WaitBeforeClose.{wait_before_close_tick, wait_before_close_tpdu}
-use Rattle.tp4_conn.proofs.Timely.{if_kept}
 use Rattle.law_tp4_proper.specs.Octets.{AreAddressed, BaseInOctets, CallInOctets, ConnectInOctets, EndInOctets, HalfInOctets, HalvesInOctets, HasOctets, IsPair, StageInOctets}
 use Rattle.law_tp4_proper.proofs.OctetSends.{SendsInOctets, acknowledged_in, after_in, ak_in, appended, clock_in, done_in, dt_in, ed_half_in, ed_in, granted_in, opened_in, submitted_in, ticked_in, urged_in}
 

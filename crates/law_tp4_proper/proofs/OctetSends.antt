@@ -2,6 +2,7 @@
 use Rattle.std.proofs.Common.{ℕ, zero, suc, ◌+◌, ◌-◌, Bool, true, false, ◌||◌, ◌==◌, List, [], ◌∷◌, ◌++◌, length, drop, Option, Some, None, arith, nat_lt, nat_le, if◌then◌else◌}
 use Rattle.std.specs.Prelude.{not, is_some}
 use Rattle.std.proofs.lemmas.Bool.{eqb-false}
+use Rattle.osi_base.proofs.Members.{all_both, all_drop, all_take}
 use Rattle.law_carrier_answers.specs.Answers.{AreOctets}
 use Rattle.tpdu.specs.declared.tpdu.Format.{Format}
 use Rattle.tpdu.specs.declared.tpdu.Format.TheVariants.{Normal, Extended}
@@ -11,6 +12,7 @@ use Rattle.tp4_number.specs.declared.piece.Piece.{Piece}
 use Rattle.tp4_number.specs.Number.{ahead, near, wire}
 use Rattle.tp4_number.specs.Receiver.{Inbox, arrived_as, granted, in_order, judged}
 use Rattle.tp4_number.specs.Window.{placed}
+use Rattle.tp4_number.proofs.Past.{if_kept}
 use Rattle.tp4_flow.specs.ReceivingHalf.{Half, ak, aks, allowed, block_in as block_there, dt_arrival, ea, half_after, half_granted, is_before, is_next, taken_dt, taken_ed}
 use Rattle.tp4_flow.specs.declared.rules.Life.{Life}
 use Rattle.tp4_flow.specs.declared.rules.Life.TheVariants.{Goes, Exhausted}
@@ -18,9 +20,8 @@ use Rattle.tp4_flow.specs.declared.step.Sent.{Sent}
 use Rattle.tp4_sending.specs.SendingHalf.{FlowSender, Sendings, acknowledged, acknowledged_to, all_dts, at, before, block_in, dts, dts_of, due_numbers, eds, has_next, is_noted, is_outstanding, is_taken, is_urgent, life_of, new_sends, normals, normals_where, nothing, one_urgent, opened, resends, resends_urgent, resends_urgent_as, rule_allows, sent_normal, submitted, then_sends, ticked, ticked_as, urged, urgent_done}
 use Rattle.tp4_sending.specs.Pieces.{Queue, count_in, cut_at, end_of, freed_by, is_due}
 use Rattle.tp4_sending.specs.declared.tries.Tries.{Tries}
-use Rattle.tp4_conn.proofs.Timely.{if_kept}
 use Rattle.law_tp4_proper.specs.Octets.{AreAddressed, AreUnits, HalfInOctets, IsAddressed, IsPair, RulesInOctets, SenderInOctets}
-use Rattle.law_tp4_proper.proofs.Octets.{IsOctet, all_both, all_drop, all_take}
+use Rattle.law_tp4_proper.proofs.Octets.{IsOctet}
 
 -- ---- pieces
 

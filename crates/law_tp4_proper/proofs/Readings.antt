@@ -16,7 +16,7 @@ use Rattle.law_tp4_proper.proofs.Octets.{octet_at, octets_back, octets_front, pa
 
 -- ---- parameters
 
-abbrev Holds : Option (List ℕ) → Type 0
+abbrev pub Holds : Option (List ℕ) → Type 0
 Holds None = Unit {0}
 Holds (Some value) = AreOctets value
 
@@ -24,7 +24,7 @@ either_holds : (one other : Option (List ℕ)) → Holds one → Holds other →
 either_holds None other h k = k
 either_holds (Some value) other h k = h
 
-last_holds : (code : ℕ) (ps : List Parameter) → AreOctets (spelled ps) → Holds (last_value code ps)
+pub last_holds : (code : ℕ) (ps : List Parameter) → AreOctets (spelled ps) → Holds (last_value code ps)
 last_holds code [] h = tt
 last_holds code (p ∷ ps) h =
     let value : AreOctets p.value = octets_front p.value (spelled ps) h.1.1 in

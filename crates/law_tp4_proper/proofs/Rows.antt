@@ -1,12 +1,13 @@
 -- One end of an entity through a step: where it is not due, a call or a TPDU leaves it proper and due later than now, and so does a tick
 -- that is not past that at which it is due.
-use Rattle.std.proofs.Common.{◌≡◌, ℕ, ◌+◌, ◌≤◌, Bool, ◌&&◌, not, List, Option, Some, None, refl, ◌∙◌, subst, arith}
+use Rattle.std.proofs.Common.{◌≡◌, ℕ, ◌≤◌, Bool, ◌&&◌, not, List, Option, Some, refl, ◌∙◌, subst, arith}
 use Rattle.std.proofs.lemmas.Option.{none-some, same_Some}
 use Rattle.tpdu.specs.Writing.{IsAllowed}
 use Rattle.tpdu.specs.declared.tpdu.Format.TheVariants.{Normal as Plain}
 use Rattle.tpdu.specs.declared.tpdu.Tpdu.{Tpdu}
 use Rattle.tpdu.specs.declared.tpdu.Tpdu.TheVariants.{Cr}
 use Rattle.tpdu.specs.declared.service.Options.{Options}
+use Rattle.tp4_number.proofs.Past.{if_kept}
 use Rattle.tp4_conn.specs.declared.end_record.EndRecord.{EndRecord}
 use Rattle.tp4_conn.specs.declared.call.ConnectCall.{ConnectCall}
 use Rattle.tp4_conn.specs.declared.call.UserCall.{UserCall}
@@ -21,10 +22,9 @@ use Rattle.tp4_conn.specs.Matching.{wants_sum}
 use Rattle.tp4_conn.specs.Proper.{AreSendable, IsProper, IsProperCall, IsProperEvent, IsProperRow, IsProperStage}
 use Rattle.tp4_conn.specs.Table.{Called, Took, Ticked, due, stepped}
 use Rattle.tp4_conn.specs.Table.{at as base_at}
-use Rattle.tp4_conn.proofs.Dues.{running_due}
+use Rattle.tp4_conn.proofs.Dues.{before_is, running_due}
 use Rattle.tp4_conn.proofs.Propers.{called_row, connected_row, step_row}
-use Rattle.tp4_conn.proofs.Rests.{Lasts, MaySend, before_not, before_of, call_late, in_time_at, tick_keeps, tpdu_late}
-use Rattle.tp4_conn.proofs.Timely.{if_kept}
+use Rattle.tp4_conn.proofs.Rests.{Lasts, MaySend, before_not, call_late, in_time_at, tick_keeps, tpdu_late}
 use Rattle.law_tp4_proper.specs.Rest.{IsProperEnd}
 
 -- a proper end is due when it is said to be
@@ -49,14 +49,6 @@ pub record StepRests (t : Timers) (now : ℕ) (m : Moved) : Type 0 where
   pub rests : Rests t now (end_of m)
   pub tpdus : AreSendable m.tpdus
 
-pub before_in_time : (next : Option ℕ) (now : ℕ) → IsBefore next now → IsInTime next now
-before_in_time None now low = tt
-before_in_time (Some tick) now low = omega (arith, low)
-
-pub next_in_time : (next : Option ℕ) (now : ℕ) → IsBefore next now → IsInTime next (now + 1)
-next_in_time None now low = tt
-next_in_time (Some tick) now low = omega (arith, low)
-
 may_send : (agreed : Option Options) (stage : StateData) → IsProperStage agreed stage → MaySend stage
 may_send agreed (CrWait w) proper = tt
 may_send agreed (WaitBeforeClose w) proper = tt
@@ -68,7 +60,7 @@ may_send agreed (Frozen when) proper = tt
 
 lasts_rests : (t : Timers) (now : ℕ) (e : End) (m : Moved) → e.base.timers ≡ t → Lasts e.base.timers now m → IsProperRow m → StepRests t now m
 lasts_rests t now e m same lasts row = record {
-  rests = record { end = record { proper = row.proper; timers_are = lasts.timers ∙ same; waiting = lasts.waiting }; later = before_of (due m.base m.stage) now lasts.late };
+  rests = record { end = record { proper = row.proper; timers_are = lasts.timers ∙ same; waiting = lasts.waiting }; later = before_is (due m.base m.stage) now lasts.late };
   tpdus = row.tpdus;
 }
 

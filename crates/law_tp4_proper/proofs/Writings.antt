@@ -15,7 +15,7 @@ use Rattle.tpdu.specs.Writing.{IsAllowed, IsWritten, ack_parameters, body_for, c
 use Rattle.tpdu.specs.steps.Sums.{SumsIf}
 use Rattle.tpdu.proofs.Formats.{fits}
 use Rattle.tpdu.proofs.Spellings.{spelled_by}
-use Rattle.tp4_conn.proofs.Timely.{if_kept}
+use Rattle.tp4_number.proofs.Past.{if_kept}
 use Rattle.law_tp4_proper.specs.Octets.{HasOctets, IsPair}
 use Rattle.law_tp4_proper.proofs.Octets.{bytes_are_octets, octets_both, two_are_octets}
 

@@ -2,6 +2,8 @@
 use Rattle.std.proofs.Common.{◌≡◌, ◌≢◌, ℕ, zero, suc, ◌+◌, ◌-◌, ◌<◌, ◌≤◌, List, [], ◌∷◌, ◌++◌, length, take, drop, map, get_or, inl, inr, refl, sym, ◌∙◌, ap, subst, append_assoc, arith}
 use Rattle.std.specs.List.{AllByRecursion}
 use Rattle.std.proofs.lemmas.List.{append-nil, map-append, length-append, length-take-le, take-append-drop, drop_more, length_push}
+use Rattle.osi_base.proofs.Members.{all_take}
+use Rattle.osi_base.proofs.Young.{all_last}
 use Rattle.line_loop.specs.Limits.{most_octets}
 use Rattle.line_loop.specs.Lines.{most_lines, most_in_line, whole_lines, open_line, last_line, without_return}
 use Rattle.line_loop.specs.steps.Joined.{HasNoFeed}
@@ -9,18 +11,9 @@ use Rattle.line_loop.specs.Meaning.{Meaning}
 use Rattle.line_loop.specs.Course.{Runs, IsRead, IsFull, IsTooMuch, IsRefusedAt}
 use Rattle.line_loop.proofs.Lines.{whole_feed, open_feed, whole_part, open_part}
 
-pub all_last : {A : Type 0} (P : A → Type 0) (xs : List A) (x : A) → AllByRecursion P xs → P x → AllByRecursion P (xs ++ x ∷ [])
-all_last P [] x h k = (k, tt)
-all_last P (y ∷ xs) x h k = (h.0, all_last P xs x h.1 k)
-
 pub all_front : {A : Type 0} (P : A → Type 0) (xs : List A) (x : A) → AllByRecursion P (xs ++ x ∷ []) → AllByRecursion P xs × P x
 all_front P [] x h = (tt, h.0)
 all_front P (y ∷ xs) x h = let rest = all_front P xs x h.1 in ((h.0, rest.0), rest.1)
-
-all_take : {A : Type 0} (P : A → Type 0) (n : ℕ) (xs : List A) → AllByRecursion P xs → AllByRecursion P (take n xs)
-all_take P zero xs h = tt
-all_take P (suc n) [] h = tt
-all_take P (suc n) (x ∷ xs) h = (h.0, all_take P n xs h.1)
 
 all_get : {A : Type 0} (P : A → Type 0) (n : ℕ) (xs : List A) (d : A) → n < length xs → AllByRecursion P xs → P (get_or xs n d)
 all_get P n [] d lt h = absurd (omega arith)

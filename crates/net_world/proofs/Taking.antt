@@ -15,7 +15,7 @@ pub record Taking {C : Type 0} (link : C → Link (List ℕ)) (steps : C → Cal
   pub gathering : Gathering link steps old ups new
   pub told_is : after ≡ before ++ told ups
 
-told_last : (ups : List (Up (List ℕ))) (up : Up (List ℕ)) → told (ups ++ up ∷ []) ≡ told ups ++ up_events up
+pub told_last : (ups : List (Up (List ℕ))) (up : Up (List ℕ)) → told (ups ++ up ∷ []) ≡ told ups ++ up_events up
 told_last [] up = append-nil (up_events up)
 told_last (first ∷ ups) up = ap (λ (rest : List Event). up_events first ++ rest) (told_last ups up) ∙ sym (append_assoc (up_events first) (told ups) (up_events up))
 

@@ -23,7 +23,7 @@ at_code code k h = by_less (nat_lt code k) (nat_eq code k) refl h
 in_range : (low high k : ℕ) → low ≤ k → k ≤ high → range_contains nat_cmp (Included low) (Included high) k ≡ true
 in_range low high k from to = grind (arith, nat_tests, from, to)
 
-same_bool : (a b : Bool) → (a ≡ true → b ≡ true) → (b ≡ true → a ≡ true) → a ≡ b
+pub same_bool : (a b : Bool) → (a ≡ true → b ≡ true) → (b ≡ true → a ≡ true) → a ≡ b
 same_bool true b h k = sym (h refl)
 same_bool false true h k = k refl
 same_bool false false h k = refl

@@ -12,7 +12,6 @@ use Rattle.script_journal.specs.RawLawful.{clock_after, clock_from}
 use Rattle.script_journal.specs.declared.event.Event.{Event}
 use Rattle.script_journal.specs.declared.event.Event.TheVariants as events
 use Rattle.script_storm.specs.Counted.{is_frame}
-use Rattle.tp4_world.proofs.Addressees.{all_append}
 use Rattle.law_run.specs.Bench.{Bench, FillsJournal, bench_meaning, first_bench, most_events}
 use Rattle.law_run.specs.World.{World}
 use Rattle.script_world.specs.declared.play.World.TheVariants.{SettingUp, Running}
@@ -21,6 +20,7 @@ use Rattle.script_frames.specs.Laws.{CapturesTooMuch}
 use Rattle.script_frames.proofs.ToldFrames.{told_append, told_from-append}
 use Rattle.script_frames.proofs.ToldLines.{HasPorts, IsQuietWorld, WorldTells, clock_in, world_tells}
 use Rattle.osi_base.specs.declared.note.Note.TheVariants as notes
+use Rattle.osi_base.proofs.Members.{all_both}
 
 record Framed (ports : List PortRow) (first : Bench) (texts : List (List ℕ)) (frames : List SentFrame) (last : Bench) : Type 0 where
   journal : List Event
@@ -85,7 +85,7 @@ framed ports first (text ∷ texts) frames last has quiet h =
       has = t.ports ports rest.has;
       told = subst (λ (fs : List SentFrame). AreTold ports (length (slots_of first.world) + 1) (told_from (clock_in first.world) (one.made ++ rest.journal)) fs) (sym h.4)
           (lines_told ports first h.1 text h.0 h.2 one rest.journal rest.has t rest.told);
-      fit = subst (λ (fs : List SentFrame). AllByRecursion IsWritable fs) (sym h.4) (all_append IsWritable h.0 h.2 one.frames_are.fit rest.fit);
+      fit = subst (λ (fs : List SentFrame). AllByRecursion IsWritable fs) (sym h.4) (all_both IsWritable h.0 h.2 one.frames_are.fit rest.fit);
       clock = clocks_on first.world h.1.world last.world one.made rest.journal t rest.clock;
       count = omega (arith, rest.count, t.count, ap length one.frames_are.are, ap length h.4, length-append h.0 h.2);
     }
@@ -154,7 +154,7 @@ filled texts line before later state last runs fills =
       f.journal,
       f.runs,
       captured (f.journal ++ fills.made) (before ++ later) last (subst (λ (fs : List ToldFrame). AreTold ports 1 fs (before ++ later)) (sym (f.clock 0 fills.made refl)) all)
-          (all_append IsWritable before later f.fit fills.frames_are.fit),
+          (all_both IsWritable before later f.fit fills.frames_are.fit),
     )
 
 -- ---- too much

@@ -3,6 +3,7 @@ use Rattle.std.proofs.Common.{◌≡◌, ◌⊎◌, ℕ, zero, suc, ◌+◌, ◌
 use Rattle.std.proofs.lemmas.List.{append-nil, length-drop, take_all}
 use Rattle.std.specs.List.{AllByRecursion}
 use Rattle.std.specs.Prelude.{OnOk, Result}
+use Rattle.osi_base.proofs.Members.{all_both}
 use Rattle.capture_write.specs.Written.{IsWritable, SentFrame, records_octets}
 use Rattle.lan_step.specs.Frames.{Frame, frame_of, kept}
 use Rattle.line_loop.proofs.Calls.{on_ok}
@@ -10,7 +11,6 @@ use Rattle.line_loop.specs.Meaning.{HasRun}
 use Rattle.line_loop.specs.declared.machine.LineError.{LineError}
 use Rattle.script_lines.specs.declared.cause.LineFault.{LineFault}
 use Rattle.script_journal.specs.declared.event.Event.{Event}
-use Rattle.tp4_world.proofs.Addressees.{all_append}
 use Rattle.law_run.specs.Bench.{Bench, RunsText}
 use Rattle.script_frames.specs.Frames.{AreMade, frames_meaning, sent_in, sent_of, slots_of}
 use Rattle.law_run.specs.World.{World}
@@ -80,7 +80,7 @@ one_written slots before place frame old now new behind h is fit told =
     ∙ ap (λ (frames : List SentFrame). frames ++ sent_of frame) (sym h.made.are) in
     record {
       frames = h.frames ++ sent_of frame;
-      made = record { are = sym all; fit = all_append IsWritable h.frames (sent_of frame) h.made.fit fit };
+      made = record { are = sym all; fit = all_both IsWritable h.frames (sent_of frame) h.made.fit fit };
       told = told ∙ ap (λ (octets : List ℕ). octets ++ records_octets (sent_of frame)) h.told ∙ append_assoc old (records_octets h.frames) (records_octets (sent_of frame))
           ∙ ap (λ (octets : List ℕ). old ++ octets) (sym (told_after h.frames (sent_of frame)));
     }

@@ -1,6 +1,6 @@
 -- Each frame of a run fits the record of a capture: it was sent by now, and its PDU has the room of a LAN. So each line has a course also where lines are told
 -- by their frames.
-use Rattle.std.proofs.Common.{◌≡◌, ◌⊎◌, ℕ, zero, suc, ◌+◌, ◌-◌, ◌<◌, ◌≤◌, Bool, true, false, if◌then◌else◌, List, [], ◌∷◌, ◌++◌, length, map, take, drop, slice_get, slice_set, Option, None, Some, Result, Ok, Err, inl, inr, refl, sym, ◌∙◌, ap, subst, arith}
+use Rattle.std.proofs.Common.{◌≡◌, ℕ, zero, suc, ◌+◌, ◌-◌, ◌<◌, ◌≤◌, Bool, true, false, if◌then◌else◌, List, [], ◌∷◌, ◌++◌, length, map, take, drop, slice_get, slice_set, Option, None, Some, Result, Ok, Err, inl, inr, refl, sym, subst, arith}
 use Rattle.std.specs.Prelude.{nat_le, nat_lt, not, ◌||◌, ◌==◌, is_some}
 use Rattle.std.specs.List.{AllByRecursion, count_by}
 use Rattle.std.proofs.lemmas.Bool.{cases_lt, ltb-false}
@@ -19,6 +19,7 @@ use Rattle.osi_base.specs.declared.unit.Up.{Up}
 use Rattle.osi_base.specs.declared.unit.Up.TheVariants.{Unit as Came, Note as Noted}
 use Rattle.osi_base.specs.declared.unit.Wish.{Wish}
 use Rattle.osi_base.specs.Calls.{Call, Chain, Choose, Inject, NextUp, Offer, Tick}
+use Rattle.osi_base.proofs.Members.{all_both, all_drop, all_take}
 use Rattle.capture_write.specs.Written.{IsWritable, SentFrame, header_octets}
 use Rattle.lan_frame.specs.Frame.{whole_frame}
 use Rattle.lan_step.specs.declared.row.Lan.{Lan}
@@ -27,6 +28,7 @@ use Rattle.lan_step.specs.Bag.{Bag, BagStep, after_choose, after_inject, after_o
 use Rattle.lan_step.specs.Frames.{Frame, frame_of, is_live, kept, kept_at, marked, marked_at, marked_frame}
 use Rattle.lan_step.specs.Offers.{live_count, offered}
 use Rattle.lan_step.specs.Rows.{IsLan, room_on, sender_of}
+use Rattle.lan_step.proofs.Offering.{some_kept}
 use Rattle.esis_tables.specs.Rows.{Rows}
 use Rattle.clnp_system.specs.Node.{Node}
 use Rattle.clnp_system.specs.Tables.{rows_tables}
@@ -52,7 +54,6 @@ use Rattle.law_setup.specs.Lines.{IsInOctets}
 use Rattle.law_setup.proofs.Octets.{may_begin, nodes_are}
 use Rattle.tp4_number.specs.Number.{wire}
 use Rattle.tp4_world.specs.Total.{CanRun, HasRun, HasStart, IsReady, Serves}
-use Rattle.tp4_world.proofs.Addressees.{all_append}
 use Rattle.tp4_world.proofs.SomeLines.{some_begin, some_line}
 use Rattle.script_bench.specs.Acts.{HasStep}
 use Rattle.law_setup.specs.ClnpNets.{MakesNet}
@@ -67,16 +68,6 @@ use Rattle.script_frames.specs.Frames.{AsksSomeCapture, MakesFrames, frames_mean
 use Rattle.script_frames.specs.steps.FrameLaws.{frames_laws}
 
 -- ---- lists
-
-all_dropped : {A : Type 0} (P : A → Type 0) (n : ℕ) (xs : List A) → AllByRecursion P xs → AllByRecursion P (drop n xs)
-all_dropped P zero xs all = all
-all_dropped P (suc n) [] all = all
-all_dropped P (suc n) (x ∷ xs) all = all_dropped P n xs all.1
-
-all_taken : {A : Type 0} (P : A → Type 0) (n : ℕ) (xs : List A) → AllByRecursion P xs → AllByRecursion P (take n xs)
-all_taken P zero xs all = tt
-all_taken P (suc n) [] all = all
-all_taken P (suc n) (x ∷ xs) all = (all.0, all_taken P n xs all.1)
 
 -- ---- the LANs
 
@@ -98,13 +89,9 @@ set_kept now [] (suc place) system frame all at = absurd (none-some _ at)
 set_kept now (slot ∷ slots) zero system frame all at = (subst (IsKept now) (same_Some slot (Some frame) at) all.0, all.1)
 set_kept now (slot ∷ slots) (suc place) system frame all at = (all.0, set_kept now slots place system frame all.1 at)
 
-found_some : (found : Option (Option Frame)) (frame : Frame) → kept found ≡ Some frame → found ≡ Some (Some frame)
-found_some None frame is = absurd (none-some _ is)
-found_some (Some slot) frame is = ap Some is
-
 marked_kept : (now : ℕ) (slots : List (Option Frame)) (place system : ℕ) (found : Option Frame) → AreKept now slots → kept (slice_get slots place) ≡ found → AreKept now (marked_frame slots place system found)
 marked_kept now slots place system None all is = all
-marked_kept now slots place system (Some frame) all is = set_kept now slots place system frame all (found_some (slice_get slots place) frame is)
+marked_kept now slots place system (Some frame) all is = set_kept now slots place system frame all (some_kept (slice_get slots place) frame is)
 
 number_kept : (now : ℕ) (slots : List (Option Frame)) (number system : ℕ) → AreKept now slots → AreKept now (marked_at slots number system)
 number_kept now slots zero system all = all
@@ -125,7 +112,7 @@ offer_short old unit WasTaken is s =
     (nat_le 16384 (live_count old.frames) || nat_le 4294967295 (length old.frames)) is in
     record {
       rooms = s.rooms;
-      frames = all_append (IsKept old.clock) old.frames (Some (record { tick = old.clock; unit = unit; taken = [] }) ∷ []) s.frames ((omega arith, omega (arith, size, s.rooms unit.to.lan)), tt);
+      frames = all_both (IsKept old.clock) old.frames (Some (record { tick = old.clock; unit = unit; taken = [] }) ∷ []) s.frames ((omega arith, omega (arith, size, s.rooms unit.to.lan)), tt);
     }
 offer_short old unit (Dropped cause) is s = s
 
@@ -276,7 +263,7 @@ slot_fits now (Some frame) low k f = ((omega (arith, k.0, low), frame_long frame
 
 sent_fits : (now : ℕ) (slots : List (Option Frame)) → now ≤ 4000000000 → AreKept now slots → AllByRecursion FitsKept slots → AllByRecursion IsWritable (sent_in slots)
 sent_fits now [] low k f = tt
-sent_fits now (slot ∷ slots) low k f = all_append IsWritable (sent_of slot) (sent_in slots) (slot_fits now slot low k.0 f.0) (sent_fits now slots low k.1 f.1)
+sent_fits now (slot ∷ slots) low k f = all_both IsWritable (sent_of slot) (sent_in slots) (slot_fits now slot low k.0 f.0) (sent_fits now slots low k.1 f.1)
 
 new_fits : (old new : World) → WorldWrites new → AllByRecursion IsWritable (sent_in (new_slots old new))
 new_fits old (SettingUp setup) w = none (length (slots_of old))
@@ -287,8 +274,8 @@ new_fits old (SettingUp setup) w = none (length (slots_of old))
 new_fits old (Running run) w =
     let net : Net = run.ends.carrier in
     let n : ℕ = length (slots_of old) in
-    sent_fits net.link.clock (drop n net.link.frames) w.carrier.octets.stands.sound.steady.low (all_dropped (IsKept net.link.clock) n net.link.frames w.carrier.short.frames)
-    (all_dropped FitsKept n net.link.frames w.carrier.octets.stands.link.frames)
+    sent_fits net.link.clock (drop n net.link.frames) w.carrier.octets.stands.sound.steady.low (all_drop (IsKept net.link.clock) n net.link.frames w.carrier.short.frames)
+    (all_drop FitsKept n net.link.frames w.carrier.octets.stands.link.frames)
 
 first_fits : (most : ℕ) (old new : World) → WorldWrites new → AllByRecursion IsWritable (sent_in (take most (new_slots old new)))
 first_fits most old (SettingUp setup) w = none (length (slots_of old)) most
@@ -302,8 +289,8 @@ first_fits most old (Running run) w =
     let net : Net = run.ends.carrier in
     let n : ℕ = length (slots_of old) in
     sent_fits net.link.clock (take most (drop n net.link.frames)) w.carrier.octets.stands.sound.steady.low
-    (all_taken (IsKept net.link.clock) most (drop n net.link.frames) (all_dropped (IsKept net.link.clock) n net.link.frames w.carrier.short.frames))
-    (all_taken FitsKept most (drop n net.link.frames) (all_dropped FitsKept n net.link.frames w.carrier.octets.stands.link.frames))
+    (all_take (IsKept net.link.clock) most (drop n net.link.frames) (all_drop (IsKept net.link.clock) n net.link.frames w.carrier.short.frames))
+    (all_take FitsKept most (drop n net.link.frames) (all_drop FitsKept n net.link.frames w.carrier.octets.stands.link.frames))
 
 -- ---- each line has a course
 

@@ -17,6 +17,7 @@ use Rattle.lan_step.specs.Bag.{Bag}
 use Rattle.lan_step.specs.Frames.{Frame, kept, marked, marked_at, marked_frame}
 use Rattle.lan_step.specs.Rows.{sender_of}
 use Rattle.lan_step.specs.declared.row.PortRow.{PortRow}
+use Rattle.lan_step.proofs.Offering.{some_kept}
 use Rattle.script_journal.specs.RawLawful.{clock_after, clock_from}
 use Rattle.script_journal.specs.declared.event.Event.{Event}
 use Rattle.script_frames.specs.Frames.{AreTold, ToldFrame, sent_in, told_by, told_from}
@@ -49,10 +50,6 @@ told_from-append now [] ys = refl
 told_from-append now (x ∷ xs) ys =
     ap (λ (fs : List ToldFrame). told_by now x ++ fs) (told_from-append (clock_after now x) xs ys)
     ∙ sym (append_assoc (told_by now x) (told_from (clock_after now x) xs) (told_from (clock_from (clock_after now x) xs) ys))
-
-pub clock_from-append : (now : ℕ) (xs ys : List Event) → clock_from now (xs ++ ys) ≡ clock_from (clock_from now xs) ys
-clock_from-append now [] ys = refl
-clock_from-append now (x ∷ xs) ys = clock_from-append (clock_after now x) xs ys
 
 -- an event that tells no frame, and leaves the clock
 pub record IsPlain (event : Event) : Type 0 where
@@ -138,13 +135,9 @@ set_core (slot ∷ frames) zero frame new at same =
     ap (λ (x : Option (ℕ × CarriedUnit Port)). x ∷ map core frames) (same ∙ sym (ap core is))
 set_core (slot ∷ frames) (suc place) frame new at same = ap (λ (xs : List (Option (ℕ × CarriedUnit Port))). core slot ∷ xs) (set_core frames place frame new at same)
 
-kept_some : (found : Option (Option Frame)) (frame : Frame) → kept found ≡ Some frame → found ≡ Some (Some frame)
-kept_some None frame is = absurd (none-some _ is)
-kept_some (Some slot) frame is = ap Some is
-
 marked_slot_core : (frames : List (Option Frame)) (place system : ℕ) (found : Option Frame) → kept (slice_get frames place) ≡ found → map core (marked_frame frames place system found) ≡ map core frames
 marked_slot_core frames place system None is = refl
-marked_slot_core frames place system (Some frame) is = set_core frames place frame (marked frame system) (kept_some (slice_get frames place) frame is) refl
+marked_slot_core frames place system (Some frame) is = set_core frames place frame (marked frame system) (some_kept (slice_get frames place) frame is) refl
 
 pub marked_core : (frames : List (Option Frame)) (number system : ℕ) → map core (marked_at frames number system) ≡ map core frames
 marked_core frames zero system = refl

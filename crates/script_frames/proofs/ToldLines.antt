@@ -29,6 +29,7 @@ use Rattle.script_lines.specs.declared.line.Line.{Line}
 use Rattle.script_lines.specs.declared.line.Line.TheVariants as lines
 use Rattle.net_world.specs.Run.{SendsUnit}
 use Rattle.net_world.specs.Told.{picked_event, sent_event, shown_at, told}
+use Rattle.net_world.proofs.Journals.{clock_from-append}
 use Rattle.tp4_conn.specs.declared.call.ConnectRequest.{ConnectRequest}
 use Rattle.tp4_conn.specs.declared.call.UserCall.{UserCall}
 use Rattle.tp4_conn.specs.declared.call.UserCall.TheVariants as asks
@@ -55,7 +56,7 @@ use Rattle.law_run.specs.World.{TransportNet, Net, NetDoes, SetsUp, StartsUp, Wo
 use Rattle.law_run.proofs.WorldLaws.{ran_line, started}
 use Rattle.law_run.specs.World.{World}
 use Rattle.script_world.specs.declared.play.World.TheVariants.{SettingUp, Running}
-use Rattle.script_frames.proofs.ToldFrames.{ArePlain, Grows, IsPlain, clock_from-append, counted, entries_length, first_told, grows_none, grows_on, new_told, noted, noted_by, plain_clock, plain_none, told_from-append, told_length}
+use Rattle.script_frames.proofs.ToldFrames.{ArePlain, Grows, IsPlain, counted, entries_length, first_told, grows_none, grows_on, new_told, noted, noted_by, plain_clock, plain_none, told_from-append, told_length}
 use Rattle.script_frames.proofs.ToldNet.{ChoosesFrame, InjectsOctets, IsNoTick, IsQuiet, OffersUnit, Passed, gathered, later, passed, tick_passed, ticks_grow}
 use Rattle.tp4_conn.specs.declared.timers.Timers.{Timers}
 

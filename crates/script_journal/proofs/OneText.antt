@@ -1,7 +1,7 @@
 -- A text of events tells them: its lines tell their texts, the texts tell what kinds of cells there are, each text its cell,
 -- and the cells their event.
-use Rattle.std.proofs.Common.{◌≡◌, ℕ, suc, ◌/◌, ◌%◌, ◌<◌, ◌^◌, Bool, true, false, List, [], ◌∷◌, ◌++◌, map, refl, sym, ◌∙◌, ap, Some, arith, append_assoc}
-use Rattle.std.specs.Prelude.{◌&&◌, slice_index}
+use Rattle.std.proofs.Common.{◌≡◌, ℕ, suc, ◌/◌, ◌%◌, ◌<◌, ◌^◌, true, List, [], ◌∷◌, ◌++◌, map, refl, sym, ◌∙◌, ap, Some, arith, append_assoc}
+use Rattle.std.specs.Prelude.{slice_index}
 use Rattle.std.specs.Fmt.{decimal}
 use Rattle.std.specs.List.{list_all}
 use Rattle.std.specs.Str.Parse.{AllDigits}
@@ -12,6 +12,7 @@ use Rattle.hex.specs.Hex.{IsBytes, encode_lower, encode_with, lower_digits, deco
 use Rattle.hex.proofs.HexLemmas.{decode_of-encode_lower}
 use Rattle.script_lines.specs.Field.{is_name, is_lower_letter, is_letter_or_digit}
 use Rattle.script_lines.specs.Tags.{Tags, AreNames}
+use Rattle.script_lines.proofs.Places.{both}
 use Rattle.script_journal.specs.declared.event.Event.{Event}
 use Rattle.script_journal.specs.Told.{cells_of, texts_of, journal_text}
 use Rattle.script_journal.specs.Cells.{Cell, Word, Number, Preferred, System, Lan, Digits, Octets, cell_text, octets_text, line}
@@ -26,11 +27,6 @@ decimal_plain : (n : ℕ) → n < 2 ^ 64 → IsPlain (decimal n)
 decimal_plain n fits =
     let digits = digits_decimal (numerals_by_value (AllDigits 10) tells_digits) n fits in
     plain_from (decimal n) (λ i lt. let range = digit_at (decimal n) i digits lt in omega (arith, range.0))
-
-both : (a b : Bool) → a && b ≡ true → (a ≡ true) × (b ≡ true)
-both true true is = (refl, refl)
-both true false is = absurd (cc)
-both false b is = absurd (cc)
 
 lower_above : (c : ℕ) → is_lower_letter c ≡ true → 32 < c
 lower_above c is = grind (arith, nat_tests)

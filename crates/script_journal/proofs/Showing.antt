@@ -190,7 +190,7 @@ module _ (titles : List (List ℕ)) (journal : List Event) (queues : AreQueues t
 
 -- ---- units
 
-more : (test : Bool) (unit : Marked) (xs ys zs : List Marked) → zs ≡ xs ++ ys → (if test then unit ∷ zs else zs) ≡ (if test then unit ∷ xs else xs) ++ ys
+pub more : (test : Bool) (unit : Marked) (xs ys zs : List Marked) → zs ≡ xs ++ ys → (if test then unit ∷ zs else zs) ≡ (if test then unit ∷ xs else xs) ++ ys
 more true unit xs ys zs e = ap (λ (l : List Marked). unit ∷ l) e
 more false unit xs ys zs e = e
 
@@ -205,13 +205,13 @@ some_shown (first ∷ front) unit e = cc e
 own : (end : ℕ) (unit : Marked) → (if end == end then unit ∷ [] else []) ≡ unit ∷ []
 own end unit = ap (λ (b : Bool). if b then unit ∷ [] else []) (eq-eqb end end refl)
 
-submitted_both : (end : ℕ) (xs ys : List Event) → submitted end (xs ++ ys) ≡ submitted end xs ++ submitted end ys
+pub submitted_both : (end : ℕ) (xs ys : List Event) → submitted end (xs ++ ys) ≡ submitted end xs ++ submitted end ys
 submitted_both end [] ys = refl
 submitted_both end (events.Data at octets ∷ xs) ys = more (at == end) (Normal octets) (submitted end xs) (submitted end ys) (submitted end (xs ++ ys)) (submitted_both end xs ys)
 submitted_both end (events.Expedite at octets ∷ xs) ys = more (at == end) (Expedited octets) (submitted end xs) (submitted end ys) (submitted end (xs ++ ys)) (submitted_both end xs ys)
 submitted_both end (event ∷ xs) ys = submitted_both end xs ys
 
-shown_both : (end : ℕ) (xs ys : List Event) → shown end (xs ++ ys) ≡ shown end xs ++ shown end ys
+pub shown_both : (end : ℕ) (xs ys : List Event) → shown end (xs ++ ys) ≡ shown end xs ++ shown end ys
 shown_both end [] ys = refl
 shown_both end (events.End at (tells.Got octets) ∷ xs) ys = more (at == end) (Normal octets) (shown end xs) (shown end ys) (shown end (xs ++ ys)) (shown_both end xs ys)
 shown_both end (events.End at (tells.Urgent octets) ∷ xs) ys = more (at == end) (Expedited octets) (shown end xs) (shown end ys) (shown end (xs ++ ys)) (shown_both end xs ys)

@@ -7,6 +7,7 @@ use Rattle.osi_base.specs.declared.unit.Up.{Up}
 use Rattle.osi_base.specs.declared.unit.Up.TheVariants.{Unit as Came, Note as Noted}
 use Rattle.osi_base.specs.Link.{Link}
 use Rattle.osi_base.specs.Calls.{Call, Keeps}
+use Rattle.osi_base.proofs.Members.{all_both}
 use Rattle.script_journal.specs.declared.cause.Refused.TheVariants as refused
 use Rattle.script_journal.specs.declared.event.Event.{Event}
 use Rattle.script_journal.specs.declared.event.Event.TheVariants as events
@@ -251,10 +252,6 @@ module _ {N : Type 0} (link : N → Link (List ℕ)) (steps : N → Call (List �
     ap (λ (es : List Event). es ++ rest) a.4 ∙ append_assoc a.1 a.2 rest,
     runs_both first second a.0 mid new a.2 rest a.5 b,
   )
-
-  all_both : {A : Type 0} (Q : A → Type 0) (xs ys : List A) → AllByRecursion Q xs → AllByRecursion Q ys → AllByRecursion Q (xs ++ ys)
-  all_both Q [] ys first rest = rest
-  all_both Q (x ∷ xs) ys first rest = (first.0, all_both Q xs ys first.1 rest)
 
   pub rebuilt_then : (old mid new : World N) (journal here rest : List Event) → Rebuilt old here mid → Rebuilt mid rest new → journal ≡ here ++ rest → Rebuilt old journal new
   rebuilt_then old mid new journal here rest a b is = record {

@@ -7,6 +7,7 @@ use Rattle.std.proofs.lemmas.Bool.{false≢true}
 use Rattle.std.proofs.lemmas.Bool.Decides.{nat_tests}
 use Rattle.std.proofs.lemmas.List.Elements.{recursion_from_All}
 use Rattle.std.proofs.lemmas.Option.{slice_get-map}
+use Rattle.osi_base.proofs.Members.{all_both}
 use Rattle.nsap.specs.Address.{is_same_system, system_part}
 use Rattle.nsap.specs.declared.port.Port.{Port}
 use Rattle.inactive_step.specs.declared.row.InactiveRow.{InactiveRow}
@@ -17,6 +18,7 @@ use Rattle.lan_step.specs.declared.row.PortRow.{PortRow}
 use Rattle.lan_step.specs.Bag.{Bag, link_of, new_bag}
 use Rattle.lan_step.specs.Rows.{AreAllApart, AreApart, IsLan, room_on, same_port, same_snpa, sender_of}
 use Rattle.lan_step.specs.Receivers.{goes_to, group_of_kind, is_one_of}
+use Rattle.lan_bag.proofs.LanLists.{second_shut}
 use Rattle.clnp_system.specs.Setting.{is_group}
 use Rattle.script_setup.specs.Fitting.{AreTitlesApart, IsWell}
 use Rattle.script_setup.specs.Inactive.{inactive_at, inactive_from, inactive_rows, port_of, row_of}
@@ -25,10 +27,6 @@ use Rattle.script_setup.proofs.Elements.{at, each, find_all, find_passes}
 use Rattle.script_setup.proofs.Ports.{number_is, same_number}
 
 -- ---- a port of its own
-
-no_both : (a b : Bool) → b ≡ false → (a && b) ≡ false
-no_both true b is = is
-no_both false b is = refl
 
 both_are : (a b : Bool) → a ≡ true → b ≡ true → (a && b) ≡ true
 both_are true true is other = refl
@@ -51,7 +49,7 @@ sender_is (first ∷ ports) number row apart is = by (sender_is ports number row
         (ap (λ (b : Bool). if b then Some first.system else sender_of ports first.port) (own_port first.port))
     by rest false found =
         let other : AreApart first row = find_all (AreApart first) (λ (r : PortRow). r.system == number) ports row (recursion_from_All (AreApart first) ports apart.0) found in
-        ap (λ (b : Bool). if b then Some first.system else sender_of ports row.port) (no_both (first.port.lan == row.port.lan) (same_snpa first.port.snpa row.port.snpa) other.0)
+        ap (λ (b : Bool). if b then Some first.system else sender_of ports row.port) (second_shut (first.port.lan == row.port.lan) (same_snpa first.port.snpa row.port.snpa) other.0)
         ∙ rest found
 
 -- it is the port of a system of that number
@@ -78,7 +76,7 @@ not_of_group end (octet ∷ snpa) single = by (nat_eq 9 octet) refl
     by false is = kind end false is refl
 
 none_named : (a b c : Bool) → a ≡ false → b ≡ false → (c && (a || b)) ≡ false
-none_named false false c is other = no_both c false refl
+none_named false false c is other = second_shut c false refl
 none_named true b c is other = absurd (cc)
 none_named false true c is other = absurd (cc)
 
@@ -96,7 +94,7 @@ none_other : (ports : List PortRow) (to : Port) (system : ℕ) → is_group to.s
 none_other [] to system single others = refl
 none_other (row ∷ ports) to system single others =
     none_there (row.system == system && is_one_of to row) (goes_to ports to system)
-    (no_both (row.system == system) (is_one_of to row) (not_one_of to row single others.0)) (none_other ports to system single others.1)
+    (second_shut (row.system == system) (is_one_of to row) (not_one_of to row single others.0)) (none_other ports to system single others.1)
 
 -- it is one of itself
 one_of_own : (row : PortRow) → is_one_of row.port row ≡ true
@@ -141,13 +139,9 @@ goes_home (first ∷ ports) number row system apart single is = by (goes_home po
     by rest false found =
         let other : AreApart first row = find_all (AreApart first) (λ (r : PortRow). r.system == number) ports row apart_all found in
         let alone : is_group row.port.snpa ≡ false = find_all (λ (r : PortRow). is_group r.port.snpa ≡ false) (λ (r : PortRow). r.system == number) ports row single.1 found in
-        ap (λ (b : Bool). b || goes_to ports row.port system) (no_both (first.system == system) (is_one_of row.port first) (not_one_of row.port first alone other.0)) ∙ rest found
+        ap (λ (b : Bool). b || goes_to ports row.port system) (second_shut (first.system == system) (is_one_of row.port first) (not_one_of row.port first alone other.0)) ∙ rest found
 
 -- ---- the rows of the systems
-
-all_behind : {A : Type 0} (P : A → Type 0) (xs ys : List A) → AllByRecursion P xs → AllByRecursion P ys → AllByRecursion P (xs ++ ys)
-all_behind P [] ys all others = others
-all_behind P (x ∷ xs) ys all others = (all.0, all_behind P xs ys all.1 others)
 
 -- what holds of the row of each end system with a port
 module _ (P : InactiveRow → Type 0) (lans : List Lan) (ports : List PortRow) where
@@ -167,7 +161,7 @@ module _ (P : InactiveRow → Type 0) (lans : List Lan) (ports : List PortRow) w
   of_rows number (system ∷ systems) holds =
       let here : number + 0 ≡ number = omega arith in
       let next : (place : ℕ) → number + suc place ≡ (number + 1) + place = λ place. omega arith in
-      all_behind P (inactive_at lans number system (port_of ports number)) (inactive_from lans ports (number + 1) systems)
+      all_both P (inactive_at lans number system (port_of ports number)) (inactive_from lans ports (number + 1) systems)
       (of_system number system (port_of ports number) (λ row is.
       subst (λ (n : ℕ). P (row_of lans n system row)) here (holds 0 system row refl (subst (λ (n : ℕ). port_of ports n ≡ Some row) (sym here) is))))
       (of_rows (number + 1) systems (λ place other row is found.
@@ -185,8 +179,8 @@ long (y ∷ ys) x = refl
 
 same_end : (xs ys : List ℕ) (x : ℕ) → pointwise nat_eq (xs ++ x ∷ []) (ys ++ x ∷ []) ≡ pointwise nat_eq xs ys
 same_end [] [] x = both_are (nat_eq x x) true (grind (arith, nat_tests)) refl
-same_end [] (y ∷ ys) x = no_both (nat_eq x y) (pointwise nat_eq [] (ys ++ x ∷ [])) (short ys x)
-same_end (y ∷ ys) [] x = no_both (nat_eq y x) (pointwise nat_eq (ys ++ x ∷ []) []) (long ys x)
+same_end [] (y ∷ ys) x = second_shut (nat_eq x y) (pointwise nat_eq [] (ys ++ x ∷ [])) (short ys x)
+same_end (y ∷ ys) [] x = second_shut (nat_eq y x) (pointwise nat_eq (ys ++ x ∷ []) []) (long ys x)
 same_end (x ∷ xs) (y ∷ ys) z = ap (λ (b : Bool). nat_eq x y && b) (same_end xs ys z)
 
 parts : (a b : Bool) → (a && b) ≡ true → (a ≡ true) × (b ≡ true)

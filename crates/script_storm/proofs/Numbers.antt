@@ -8,6 +8,7 @@ use Rattle.std.proofs.lemmas.Bool.{and_parts, cases_lt}
 use Rattle.std.proofs.lemmas.Bool.Decides.{nat_tests}
 use Rattle.std.proofs.lemmas.Fmt.{decimal_by_steps, decimal_is_IsNumeral, decimal_digit, first_decimal, length-decimal-le, decimal_nonempty}
 use Rattle.std.proofs.lemmas.List.Folds.{list_all-append}
+use Rattle.tpdu.proofs.WriteLaws.{or_true}
 use Rattle.hex.specs.Hex.{encode_with, encode_lower, decode_of, lower_digits, IsBytes}
 use Rattle.hex.proofs.HexLemmas.{decode_of-encode_lower, length-encode_with}
 use Rattle.script_lines.specs.Field.{is_digit, is_number, number_of, octets_of, is_word}
@@ -40,10 +41,6 @@ decimal_visible number small = all_decimal is_visible digit_visible number (omeg
 
 pub decimal_short : (number : ℕ) → number < 1000000000 → length (decimal number) ≤ 9
 decimal_short number small = length-decimal-le 9 number (omega arith) (omega arith) (omega arith)
-
-or_true : (p q : Bool) → q ≡ true → (p || q) ≡ true
-or_true true q is = refl
-or_true false q is = is
 
 not_first : (first : ℕ) → 48 < first → not (first == 48) ≡ true
 not_first first above = grind (arith, nat_tests)

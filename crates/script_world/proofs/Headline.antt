@@ -200,17 +200,3 @@ module _ {N : Type 0} (link : N → Link (List ℕ)) (steps : N → Call (List �
 -- a front of what is lawful is lawful
 pub front_lawful : (frozen : ℕ) (titles : List (List ℕ)) (front back : List Event) → Lawful frozen titles (front ++ back) → Lawful frozen titles front
 front_lawful frozen titles front back lawful = λ before after is. lawful before (after ++ back) (ap (λ (journal : List Event). journal ++ back) is ∙ append_assoc before after back)
-
--- and a front of what is silent is silent
-pub front_silent : (frozen : ℕ) (front back : List Event) → KeepsSilence frozen (front ++ back) → KeepsSilence frozen front
-front_silent frozen front back silent = record {
-  lost = λ before middle rest after making event end system is makes of.
-      silent.lost before middle rest (after ++ back) making event end system
-      (ap (λ (j : List Event). j ++ back) is ∙ append_assoc before (making ∷ (middle ++ events.Restart system ∷ (rest ++ event ∷ after))) back
-      ∙ ap (λ (j : List Event). before ++ making ∷ j) (append_assoc middle (events.Restart system ∷ (rest ++ event ∷ after)) back
-      ∙ ap (λ (j : List Event). middle ++ events.Restart system ∷ j) (append_assoc rest (event ∷ after) back))) makes of;
-  late = λ before middle after making end system is makes.
-      silent.late before middle (after ++ back) making end system
-      (ap (λ (j : List Event). j ++ back) is ∙ append_assoc before (events.Restart system ∷ (middle ++ making ∷ after)) back
-      ∙ ap (λ (j : List Event). before ++ events.Restart system ∷ j) (append_assoc middle (making ∷ after) back)) makes;
-}

@@ -3,6 +3,7 @@
 use Rattle.std.proofs.Common.{◌≡◌, ◌≢◌, ◌≤◌, ◌<◌, ℕ, ◌+◌, ◌*◌, ◌∙◌, min, Bool, true, false, nat_lt, nat_le, List, [], ◌∷◌, ◌++◌, length, Option, Some, None, refl, sym, subst, ap, arith, inl, inr, if◌then◌else◌}
 use Rattle.std.proofs.Math.Nat.{mul-le-mul_right}
 use Rattle.std.proofs.lemmas.Bool.{cases_lt, ltb-true, ltb-false, leb-false, lt-leb, lt-ltb}
+use Rattle.tp4_number.proofs.Past.{if_kept}
 use Rattle.tp4_flow.specs.declared.rules.Life.{Life as Ends}
 use Rattle.tp4_flow.specs.declared.rules.Life.TheVariants.{Goes, Exhausted}
 use Rattle.tp4_flow.specs.declared.step.EndEvent.{EndEvent}
@@ -31,7 +32,6 @@ use Rattle.tp4_conn.specs.Table.{at as now_at, on_tick, due}
 use Rattle.tp4_conn.specs.UserWait.{user_wait_tick}
 use Rattle.tp4_conn.specs.steps.Kept.{IsEnd, IsSound}
 use Rattle.tp4_conn.specs.WaitBeforeClose.{wait_before_close_tick}
-use Rattle.tp4_conn.proofs.Timely.{if_kept}
 
 -- the same of a sending half: before it is due its tick changes its clock alone, and from then on more; where it goes on, it is due later
 record IsPunctual (s : FlowSender) (now : ℕ) : Type 0 where
@@ -49,7 +49,7 @@ abbrev ArePrompt : StateData → ℕ → Type 0
 ArePrompt (Opened o) now = life_of (at now o.halves.sending) ≡ Goes → IsBefore (due_of (ticked (at now o.halves.sending)).sender) now
 ArePrompt stage now = Unit {0}
 
-before_is : (due : Option ℕ) (now : ℕ) → (IsDue due now → ⊥) → IsBefore due now
+pub before_is : (due : Option ℕ) (now : ℕ) → (IsDue due now → ⊥) → IsBefore due now
 before_is None now h = tt
 before_is (Some tick) now h = elim (cases_lt now tick) [ inl less ↦ less | inr more ↦ absurd (h more) ]
 
@@ -136,7 +136,7 @@ tick_before b (Frozen when) s h = refl
 abbrev pub Later : ℕ → Moved → Type 0
 Later now m = IsBefore (due m.base m.stage) now
 
-frozen_later : (b : EndRecord) (when : ℕ) → IsBefore (frozen_due b when) b.clock
+pub frozen_later : (b : EndRecord) (when : ℕ) → IsBefore (frozen_due b when) b.clock
 frozen_later b when =
     if_kept (λ (d : Option ℕ). IsBefore d b.clock) (nat_lt (when + frozen_for b.timers) b.clock) _ _
     (λ _. tt)

@@ -15,7 +15,7 @@ use Rattle.tp4_conn.specs.AkWait.{opening_with}
 use Rattle.tp4_conn.specs.End.{Moved, Does, led_by}
 use Rattle.tp4_conn.specs.Opened.{opened_tpdu, sending}
 
-grown_twice : (was mid new : Told) (e f : List EndEvent) (s t : List Sent) → Grows was e s mid → Grows mid f t new → Grows was (e ++ f) (s ++ t) new
+pub grown_twice : (was mid new : Told) (e f : List EndEvent) (s t : List Sent) → Grows was e s mid → Grows mid f t new → Grows was (e ++ f) (s ++ t) new
 grown_twice was mid new e f s t first second = simp append_assoc at (rw first at second)
 
 -- what is told first, and then a row

@@ -12,6 +12,7 @@ use Rattle.tp4_number.specs.declared.got.Got.TheVariants.{TooLarge}
 use Rattle.tp4_number.specs.declared.piece.Piece.{Piece}
 use Rattle.tp4_number.specs.Receiver.{judged}
 use Rattle.tp4_number.specs.Number.{wire, ahead}
+use Rattle.tp4_number.proofs.Past.{if_kept}
 use Rattle.tp4_flow.specs.ReceivingHalf.{Half, Received, ak, block_in, dt_arrival, half_after, taken_dt, taken_ed, is_next, half_granted}
 use Rattle.tp4_flow.specs.declared.rules.Life.{Life as Ends}
 use Rattle.tp4_flow.specs.declared.rules.Life.TheVariants.{Goes, Exhausted}
@@ -54,7 +55,6 @@ use Rattle.tp4_conn.specs.UserWait.{user_wait_accept, user_wait_refuse, user_wai
 use Rattle.tp4_conn.specs.WaitBeforeClose.{wait_before_close_tpdu, wait_before_close_tick}
 use Rattle.tp4_conn.proofs.Sendables.{Sends, Ready, appended, opened_fits, submitted_fits, urged_fits, acknowledged_fits, done_fits, ticked_fits, ak_fits, aks_fit, same_credit, ea_fits, granted_fits}
 use Rattle.tp4_conn.proofs.Sizes.{agreed_sized, confirmed_known, known_size, number_known, proposal_by, read_proposal}
-use Rattle.tp4_conn.proofs.Timely.{if_kept}
 
 -- what an end keeps for good
 record Steady (b : EndRecord) : Type 0 where

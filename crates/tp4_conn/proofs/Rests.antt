@@ -11,6 +11,7 @@ use Rattle.tp4_number.specs.declared.got.Got.TheVariants.{TooLarge}
 use Rattle.tp4_flow.specs.ReceivingHalf.{Half, Received, dt_arrival, half_granted, taken_dt}
 use Rattle.tp4_flow.specs.Told.{Told}
 use Rattle.tp4_number.specs.Number.{wire}
+use Rattle.tp4_number.proofs.Past.{if_kept}
 use Rattle.tp4_flow.specs.declared.rules.Life.{Life as Ends}
 use Rattle.tp4_flow.specs.declared.rules.Life.TheVariants.{Goes, Exhausted}
 use Rattle.tpdu.specs.declared.service.Options.{Options}
@@ -36,7 +37,7 @@ use Rattle.tp4_conn.specs.AkWait.{ak_wait_tick, ak_wait_tpdu, opening}
 use Rattle.tp4_conn.specs.Closing.{closing_tick, closing_tpdu}
 use Rattle.tp4_conn.specs.CrWait.{cr_wait_tick, cr_wait_tpdu}
 use Rattle.tp4_conn.specs.Dues.{IsBefore}
-use Rattle.tp4_conn.specs.End.{Does, End, IsTimed, Moved, closing, frozen, frozen_for, led_by, span}
+use Rattle.tp4_conn.specs.End.{Does, End, IsTimed, Moved, closing, frozen, led_by, span}
 use Rattle.tp4_conn.specs.Frozen.{frozen_due}
 use Rattle.tp4_conn.specs.Living.{IsInTime}
 use Rattle.tp4_conn.specs.Opened.{dt_as, granting, hearing, is_expedited, opened_as, opened_tick, opened_tpdu, sending}
@@ -44,9 +45,9 @@ use Rattle.tp4_conn.specs.Table.{due, on_call, on_tick, on_tpdu}
 use Rattle.tp4_conn.specs.Table.{at as base_at}
 use Rattle.tp4_conn.specs.UserWait.{user_wait_accept, user_wait_refuse, user_wait_tick}
 use Rattle.tp4_conn.specs.WaitBeforeClose.{wait_before_close_tick, wait_before_close_tpdu}
-use Rattle.tp4_conn.proofs.Timely.{if_kept}
 use Rattle.tp4_conn.specs.steps.Kept.{IsEnd, IsSound, IsUnanswered, IsWaiting}
 use Rattle.tp4_conn.proofs.Calms.{IsCalm, acknowledged_late, calm, done_late, opened_late, opened_rests, submitted_late, urged_late}
+use Rattle.tp4_conn.proofs.Dues.{before_is, frozen_later}
 use Rattle.tp4_sending.proofs.Laters.{Rests}
 
 -- an end after a row: its timers stay, it is not due by a tick that is not after now, and where it sent a CC it sent nothing else
@@ -65,18 +66,12 @@ span_some t timed =
     let some : 1 * t.t1 ≤ t.sendings * t.t1 = mul-le-mul_right t.t1 (omega (arith, timed.sendings_least)) in
     let least : 1 ≤ t.t1 = timed.t1_least in omega arith
 
-frozen_before : (b : EndRecord) (when : ℕ) → IsBefore (frozen_due b when) b.clock
-frozen_before b when =
-    if_kept (λ (d : Option ℕ). IsBefore d b.clock) (nat_lt (when + frozen_for b.timers) b.clock) _ _
-    (λ _. tt)
-    (λ f. let low : b.clock ≤ when + frozen_for b.timers = ltb-false _ _ f in omega arith)
-
 before_late : (due : Option ℕ) (n now : ℕ) → n ≤ now → IsBefore due now → IsDue due n → ⊥
 before_late None n now bound h k = k
 before_late (Some tick) n now bound h k = absurd (omega (arith, bound, h, k))
 
 frozen_late : (n : ℕ) (b : EndRecord) (when : ℕ) → n ≤ b.clock → IsDue (frozen_due b when) n → ⊥
-frozen_late n b when bound = before_late (frozen_due b when) n b.clock bound (frozen_before b when)
+frozen_late n b when bound = before_late (frozen_due b when) n b.clock bound (frozen_later b when)
 
 frozen_lasts : (n : ℕ) (b : EndRecord) (events : List EndEvent) (tpdus : List Sent) → n ≤ b.clock → Lasts b.timers n (frozen b events tpdus)
 frozen_lasts n b events tpdus bound = record { timers = refl; waiting = tt; late = frozen_late n b b.clock bound }
@@ -386,11 +381,6 @@ pub tpdu_late : (wrap : ℕ → ℕ → ℕ) (n now : ℕ) (b : EndRecord) (stag
 tpdu_late wrap n now b stage tpdu timed sends waits bound low =
     tpdu_lasts wrap n (base_at now b) stage tpdu (record { timed = timed; bound = bound }) sends waits (late_at n b stage now bound low)
 
--- due later than a tick, and no sooner than it
-pub before_of : (due : Option ℕ) (now : ℕ) → (IsDue due now → ⊥) → IsBefore due now
-before_of None now h = tt
-before_of (Some tick) now h = less now tick h
-
 pub before_not : (due : Option ℕ) (now : ℕ) → IsBefore due now → IsDue due now → ⊥
 before_not due now h = before_late due now now (omega arith) h
 
@@ -473,7 +463,7 @@ took_late n base new stage was after now tpdu before told is waits same does bou
 pub called_later : (base new : EndRecord) (stage was after : StateData) (now : ℕ) (call : UserCall) (before told : Told) → IsEnd base stage → IsWaiting base.timers stage → was ≡ stage
     → Does (on_call (base_at now base) was call) new after before told → IsBefore (due base stage) now → IsBefore (due new after) now
 called_later base new stage was after now call before told is waits same does low =
-    before_of (due new after) now (called_late now base new stage was after now call before told is waits same does (omega arith) (before_not (due base stage) now low))
+    before_is (due new after) now (called_late now base new stage was after now call before told is waits same does (omega arith) (before_not (due base stage) now low))
 
 pub called_from : (base new : EndRecord) (stage was after : StateData) (now : ℕ) (call : UserCall) (before told : Told) → IsEnd base stage → IsWaiting base.timers stage → was ≡ stage
     → Does (on_call (base_at now base) was call) new after before told → IsInTime (due base stage) now → IsInTime (due new after) now
@@ -490,7 +480,7 @@ called_waits base new stage was after now call before told is waits same does ke
 pub took_later : (base new : EndRecord) (stage was after : StateData) (now : ℕ) (tpdu : Tpdu) (before told : Told) → IsEnd base stage → IsWaiting base.timers stage → was ≡ stage
     → Does (on_tpdu wire (base_at now base) was tpdu) new after before told → IsBefore (due base stage) now → IsBefore (due new after) now
 took_later base new stage was after now tpdu before told is waits same does low =
-    before_of (due new after) now (took_late now base new stage was after now tpdu before told is waits same does (omega arith) (before_not (due base stage) now low))
+    before_is (due new after) now (took_late now base new stage was after now tpdu before told is waits same does (omega arith) (before_not (due base stage) now low))
 
 pub took_from : (base new : EndRecord) (stage was after : StateData) (now : ℕ) (tpdu : Tpdu) (before told : Told) → IsEnd base stage → IsWaiting base.timers stage → was ≡ stage
     → Does (on_tpdu wire (base_at now base) was tpdu) new after before told → IsInTime (due base stage) now → IsInTime (due new after) now
@@ -505,7 +495,7 @@ took_waits base new stage was after now tpdu before told waits same does kept =
     (subst (λ (s : StateData). IsWaiting base.timers s) (sym here.stage_is) (tpdu_waits wire base.timers (base_at now base) stage tpdu waits))
 
 pub in_time_at : (b : EndRecord) (stage : StateData) (now : ℕ) → IsInTime (due b stage) now → IsInTime (due (base_at now b) stage) now
-in_time_at b (Frozen when) now soon = by (due (base_at now b) (Frozen when)) (frozen_before (base_at now b) when)
+in_time_at b (Frozen when) now soon = by (due (base_at now b) (Frozen when)) (frozen_later (base_at now b) when)
   where
     by : (d : Option ℕ) → IsBefore d now → IsInTime d now
     by None h = tt

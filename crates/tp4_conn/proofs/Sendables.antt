@@ -11,6 +11,7 @@ use Rattle.tp4_number.specs.declared.piece.Piece.{Piece}
 use Rattle.tp4_number.specs.Formats.{block_of}
 use Rattle.tp4_number.specs.Number.{wire, near}
 use Rattle.tp4_number.specs.Receiver.{Inbox, arrived_as}
+use Rattle.tp4_number.proofs.Past.{if_kept}
 use Rattle.tp4_flow.specs.ReceivingHalf.{Half, ak, aks, ea, taken_ed, is_next, is_before, half_granted, allowed}
 use Rattle.tp4_flow.specs.declared.rules.Life.{Life}
 use Rattle.tp4_flow.specs.declared.rules.Life.TheVariants.{Goes, Exhausted}
@@ -19,7 +20,6 @@ use Rattle.tp4_sending.specs.SendingHalf.{FlowSender, Sendings, nothing, before,
 use Rattle.tp4_sending.specs.Pieces.{end_of, is_due}
 use Rattle.tp4_sending.specs.declared.tries.Tries.{Tries}
 use Rattle.tp4_conn.specs.Proper.{AreSendable, AreExpedited}
-use Rattle.tp4_conn.proofs.Timely.{if_kept}
 
 pub appended : (xs ys : List Sent) → AreSendable xs → AreSendable ys → AreSendable (xs ++ ys)
 appended [] ys first second = second

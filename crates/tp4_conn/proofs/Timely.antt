@@ -1,12 +1,13 @@
 -- No row lets an end go on beyond I + N T1 from the last matching TPDU that it took. Each state keeps a bound on its
 -- ticks from that one (`Timely`); each row keeps the bounds, given that the tick is not past that at which the end is due.
-use Rattle.std.proofs.Common.{◌≡◌, ◌≤◌, ◌<◌, ℕ, ◌+◌, ◌*◌, Bool, true, false, ◌==◌, nat_lt, nat_le, List, Option, Some, None, refl, arith, if◌then◌else◌}
+use Rattle.std.proofs.Common.{◌≡◌, ◌≤◌, ◌<◌, ℕ, ◌+◌, ◌*◌, ◌==◌, nat_lt, nat_le, List, Option, Some, None, refl, arith}
 use Rattle.std.proofs.Math.Nat.{mul-le-mul_right}
 use Rattle.std.proofs.lemmas.Bool.{ltb-true}
 use Rattle.tpdu.specs.declared.tpdu.Tpdu.{Tpdu}
 use Rattle.tpdu.specs.declared.tpdu.Tpdu.TheVariants.{Cc, Dr, Dc, Dt, Ed, Ak, Ea, Er}
 use Rattle.tp4_number.specs.declared.got.Got.{Got}
 use Rattle.tp4_number.specs.declared.got.Got.TheVariants.{TooLarge}
+use Rattle.tp4_number.proofs.Past.{if_kept}
 use Rattle.tp4_flow.specs.ReceivingHalf.{Half, Received}
 use Rattle.tp4_flow.specs.declared.rules.Life.{Life as Ends}
 use Rattle.tp4_flow.specs.declared.rules.Life.TheVariants.{Goes, Exhausted}
@@ -56,10 +57,6 @@ Timely t took (Frozen when) = when ≤ took + t.inactive + span t
 pub record Holds (t : Timers) (took : ℕ) (m : Moved) : Type 0 where
   pub timers : m.base.timers ≡ t
   pub timely : Timely t took m.stage
-
-pub if_kept : {A : Type 0} (P : A → Type 0) (b : Bool) (x y : A) → (b ≡ true → P x) → (b ≡ false → P y) → P (if b then x else y)
-if_kept P true x y t f = t refl
-if_kept P false x y t f = f refl
 
 pub later : (t : Timers) (took now : ℕ) (tries : Tries) → took ≤ now → Trying t took tries → Trying t now tries
 later t took now tries low h = record { runs = omega arith; few = h.few }

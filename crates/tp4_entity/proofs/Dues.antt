@@ -189,7 +189,7 @@ before_in_time None now h = tt
 before_in_time (Some tick) now h = omega (arith, h)
 
 -- an end that is not due is due later
-before_by : (due : Option ℕ) (now : ℕ) → is_due_by now due ≡ false → IsBefore due now
+pub before_by : (due : Option ℕ) (now : ℕ) → is_due_by now due ≡ false → IsBefore due now
 before_by None now h = tt
 before_by (Some tick) now h = leb-false tick now h
 
@@ -275,7 +275,7 @@ pub later_from : (now : ℕ) (ends : List (Option End)) → AreLater now ends �
 later_from now [] h = tt
 later_from now (end ∷ ends) h = (before_in_time (due_at end) now h.0, later_from now ends h.1)
 
-before_next : (due : Option ℕ) (now : ℕ) → IsBefore due now → IsInTime due (now + 1)
+pub before_next : (due : Option ℕ) (now : ℕ) → IsBefore due now → IsInTime due (now + 1)
 before_next None now h = tt
 before_next (Some tick) now h = omega (arith, h)
 

@@ -295,7 +295,7 @@ pub record Gone (b : EndRecord) (stage : StateData) : Type 0 where
   pub is : stage ≡ Frozen when
   pub past : when + frozen_for b.timers < b.clock
 
-sooner_some : (one : ℕ) (other : Option ℕ) → sooner (Some one) other ≡ None → ⊥
+pub sooner_some : (one : ℕ) (other : Option ℕ) → sooner (Some one) other ≡ None → ⊥
 sooner_some one None h = cc h
 sooner_some one (Some two) h = cc h
 

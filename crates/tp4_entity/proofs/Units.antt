@@ -31,6 +31,7 @@ use Rattle.tp4_conn.specs.Matching.{is_match, wants_sum}
 use Rattle.tp4_conn.specs.Opened.{hearing, opened_tpdu}
 use Rattle.tp4_conn.specs.Table.{Took, on_tpdu, stepped, untaken, at as base_at}
 use Rattle.tp4_conn.specs.WaitBeforeClose.{wait_before_close_tpdu}
+use Rattle.tp4_conn.proofs.Openings.{grown_twice}
 use Rattle.tp4_entity.specs.Association.{met, met_by, unmatched}
 use Rattle.tp4_entity.specs.Entity.{Acted, Entity, at, end_at, moved, there}
 use Rattle.tp4_entity.specs.Step.{DoesSo}
@@ -131,7 +132,7 @@ same_lists from zero (one ∷ ends) place new h same =
 same_lists from (suc at) (one ∷ ends) place new h same =
     listed_by from one (slice_set ends at new) ∙ ap (listed_if (format_of one) from) (same_lists (from + 1) at ends place new h same) ∙ sym (listed_by from one ends)
 
-there_is : (found : Option Place) (end : End) → there found ≡ Some end → found ≡ Some (Some end)
+pub there_is : (found : Option Place) (end : End) → there found ≡ Some end → found ≡ Some (Some end)
 there_is None end h = absurd cc
 there_is (Some place) end h = ap Some h
 
@@ -178,13 +179,6 @@ formats_after : (reaches : Bool) (now : ℕ) (old entity new : Entity) (from res
 formats_after true now old entity new from rest behind tpdu is begins done same some = absurd (some (begins.end is))
 formats_after false now old entity new from rest behind tpdu is begins done same some = ap extended_of done ∙ met_keeps wire now entity from tpdu is ∙ same
 
-told_after : (was mid told : Told) (events more : List EndEvent) (tpdus others : List Sent) → Grows was events tpdus mid → Grows mid more others told → Grows was (events ++ more) (tpdus ++ others) told
-told_after was mid told events more tpdus others one two =
-    two ∙ λ i. record {
-      events = (ap (λ (t : Told). t.events ++ more) one ∙ append_assoc was.events events more) i;
-      tpdus = (ap (λ (t : Told). t.tpdus ++ others) one ∙ append_assoc was.tpdus tpdus others) i;
-    }
-
 pub heard_more : (now : ℕ) (old entity new : Entity) (from octets rest behind : List ℕ) (tpdu : TpduAndSum) (was mid told : Told) → Heard now old from octets rest entity was mid → rest ≢ []
     → BeginsWithTpdu (extended_of entity) rest tpdu behind → DoesSo (met wire entity.clock entity from tpdu) new mid told → new.clock ≡ entity.clock → Heard now old from octets behind new was told
 heard_more now old entity new from octets rest behind tpdu was mid told heard some begins does clock =
@@ -198,7 +192,7 @@ heard_more now old entity new from octets rest behind tpdu was mid told heard so
       separates = separates_more (extended_of old) octets rest behind heard.tpdus tpdu heard.separates (subst (λ (x : List ℕ). BeginsWithTpdu x rest tpdu behind) same begins);
       does = subst (λ (a : Acted). DoesSo a new was told) (sym (all_more wire now (at now old) from heard.tpdus tpdu)) (record {
         entity_is = there.entity_is;
-        told = told_after was mid told all.events last.events all.tpdus last.tpdus heard.does.told there.told;
+        told = grown_twice was mid told all.events last.events all.tpdus last.tpdus heard.does.told there.told;
       });
       formats = formats_after (reaches_end tpdu.0) now old entity new from rest behind tpdu refl begins done.entity_is same;
       clock = clock ∙ heard.clock;
@@ -230,7 +224,7 @@ pub heard_fault : (now : ℕ) (old entity : Entity) (from octets rest : List ℕ
 heard_fault now old entity from octets rest fault was mid told heard some fails grows =
     let all = all_met wire now (at now old) from heard.tpdus in
     let bad : List EndEvent = record { reference = 0; what = BadTpdu fault.cause fault.place } ∷ [] in
-    let grown = told_after was mid told all.events bad all.tpdus [] heard.does.told grows in (
+    let grown = grown_twice was mid told all.events bad all.tpdus [] heard.does.told grows in (
       record { entity = all.entity; events = all.events ++ bad; tpdus = all.tpdus },
       record {
         tpdus = heard.tpdus;

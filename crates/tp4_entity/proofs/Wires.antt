@@ -37,11 +37,11 @@ due_on : (b : EndRecord) (stage : StateData) → due b (stage_on_wire stage) ≡
 due_on b (CrWait w) = refl
 due_on b stage = refl
 
-fits_on : (b : EndRecord) (stage : StateData) (tpdu : Tpdu) → fits b (stage_on_wire stage) tpdu ≡ fits b stage tpdu
+pub fits_on : (b : EndRecord) (stage : StateData) (tpdu : Tpdu) → fits b (stage_on_wire stage) tpdu ≡ fits b stage tpdu
 fits_on b (CrWait w) tpdu = refl
 fits_on b stage tpdu = refl
 
-frozen_on : (stage : StateData) → is_frozen (stage_on_wire stage) ≡ is_frozen stage
+pub frozen_on : (stage : StateData) → is_frozen (stage_on_wire stage) ≡ is_frozen stage
 frozen_on (CrWait w) = refl
 frozen_on stage = refl
 

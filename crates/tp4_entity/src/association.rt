@@ -30,7 +30,7 @@ use osi_base::{Bytes, NoMemory, Tick};
 use std::alloc::Global;
 use tp4_conn::{Connection, Looks};
 use tp4_flow::{EndEvent, Sent, Step, What};
-use tpdu::{Format, Kind, State, Tpdu, TpduRef};
+use tpdu::{Format, State, Tpdu, TpduRef};
 
 /// A CR came again for an end that is frozen.
 const AGAIN: u8 = 131;
@@ -239,7 +239,7 @@ fn unmatched(alloc: Global, from: &Nsap, tpdu: &TpduRef<'_>, out: &mut Step) -> 
 {
     out.event(EndEvent {
         reference: 0,
-        what: What::Unknown(kind_of(tpdu)),
+        what: What::Unknown(tpdu.kind()),
     })?;
     match *tpdu {
         TpduRef::Cc { source, .. } => out.send(refusal_dr(alloc, from, source, NO_END)),
@@ -274,23 +274,6 @@ fn destination_of(tpdu: &TpduRef<'_>) -> Option<u16>
         | TpduRef::Ak { destination, .. }
         | TpduRef::Ea { destination, .. }
         | TpduRef::Er { destination, .. } => Some(destination),
-    }
-}
-
-/// The kind of a TPDU.
-fn kind_of(tpdu: &TpduRef<'_>) -> Kind
-    ensures { result ≡ kind_for (tpdu_of tpdu.now) }
-{
-    match tpdu {
-        TpduRef::Cr { .. } => Kind::Cr,
-        TpduRef::Cc { .. } => Kind::Cc,
-        TpduRef::Dr { .. } => Kind::Dr,
-        TpduRef::Dc { .. } => Kind::Dc,
-        TpduRef::Dt { .. } => Kind::Dt,
-        TpduRef::Ed { .. } => Kind::Ed,
-        TpduRef::Ak { .. } => Kind::Ak,
-        TpduRef::Ea { .. } => Kind::Ea,
-        TpduRef::Er { .. } => Kind::Er,
     }
 }
 

@@ -63,7 +63,7 @@ comes_outside old w d piece was is c t =
     })
 
 -- what is looked at before the piece is never too large
-never_large : (block : ℕ) (inbox : Inbox) (d : ℕ) → judged block inbox d ≡ TooLarge → ⊥
+pub never_large : (block : ℕ) (inbox : Inbox) (d : ℕ) → judged block inbox d ≡ TooLarge → ⊥
 never_large block inbox d e = by (is_held inbox.held d || nat_le block d) (nat_le inbox.credit d) e
   where
     by : (a b : Bool) → (if a then Old else if b then Outside else Kept) ≡ TooLarge → ⊥

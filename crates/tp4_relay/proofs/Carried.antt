@@ -4,6 +4,7 @@ use Rattle.std.specs.Prelude.{if◌then◌else◌}
 use Rattle.std.specs.List.{AllByRecursion, list_any}
 use Rattle.std.proofs.lemmas.Bool.{eq-eqb, eqb-true}
 use Rattle.std.proofs.lemmas.List.{append-nil, get_or_append_left}
+use Rattle.osi_base.proofs.Members.{all_weaker}
 use Rattle.tpdu.specs.declared.service.Options.{Options}
 use Rattle.script_journal.specs.declared.event.Event.{Event}
 use Rattle.script_journal.specs.declared.event.Event.TheVariants as events
@@ -34,7 +35,7 @@ use Rattle.tp4_relay.proofs.Finding.{dropped}
 use Rattle.tp4_relay.proofs.Journals.{any_append, or_false}
 use Rattle.tp4_relay.proofs.Served.{drop_told, or_assoc, or_none, or_one, told_more}
 use Rattle.tp4_relay.proofs.Telling.{all_idle_same, asides_idle, idle_made, refusal_idle, rows_stay, told_made, told_named}
-use Rattle.tp4_relay.proofs.Tidy.{all_each, all_notable, allowed_notable, tidy_more}
+use Rattle.tp4_relay.proofs.Tidy.{all_notable, allowed_notable, tidy_more}
 use Rattle.tpdu.specs.declared.service.EndTold.TheVariants as tells
 
 -- ---- ends that were indicated
@@ -95,7 +96,7 @@ module _ (has : ℕ → Type 0) (kept : Kept) (tidy : IsTidy kept) (rows : AllBy
     ap (λ (r : Option RelayRow). is_claimed (kept.claims ++ claimed heard.end r) heard.end) is
         ∙ any_append (λ (c : Claim). c.end == heard.end) kept.claims (record { end = heard.end; gone = false })
         ∙ ap (λ (b : Bool). is_claimed kept.claims heard.end || b) (eq-eqb heard.end heard.end refl) ∙ or_one (is_claimed kept.claims heard.end),
-    all_each (λ (pair : Pair). is_claimed kept.claims pair.inbound ≡ true) (λ (pair : Pair). pair.inbound < heard.end) kept.pairs
+    all_weaker (λ (pair : Pair). is_claimed kept.claims pair.inbound ≡ true) (λ (pair : Pair). pair.inbound < heard.end) kept.pairs
         (λ pair yes_it. claimed_by (λ (n : ℕ). n < heard.end) pair.inbound kept.claims may.0 yes_it) tidy.claimed,
     omega arith,
   )
@@ -413,7 +414,7 @@ module _ {S : Type 0} (has : S → ℕ → Type 0) (ends : S → ℕ) (honest : 
             (subst (λ (es : List Event). Reacts connects calls now current es (one || others) (t.0 ++ more) end_state end_kept) (sym rest_is)
             (new, one, others, t.0, more, (t.2).does, subst (λ (k : Kept). Reacts connects calls new k (drop (at + 1) line) others more end_state end_kept) (t.2).last_is h, refl, refl)))));
         has_rows = subst (λ (rows : List RelayRow). AllByRecursion (λ (row : RelayRow). has new row.system) rows) (sym (ap (λ (k : Kept). k.rows) (t.2).last_is ∙ rows_stay (noted current event) t.0))
-            (all_each (λ (row : RelayRow). has now row.system) (λ (row : RelayRow). has new row.system) current.rows (λ row h. (t.2).same_has row.system h) r.has_rows);
+            (all_weaker (λ (row : RelayRow). has now row.system) (λ (row : RelayRow). has new row.system) current.rows (λ row h. (t.2).same_has row.system h) r.has_rows);
         named = (t.2).named;
         more_ends = (let a = (t.2).more_ends in let b = r.more_ends in omega (arith, a, b));
       }

@@ -26,6 +26,7 @@ use Rattle.tp4_relay.specs.Leaving.{AreGiven, AreServed, EachRefuses, IfRefuses,
 use Rattle.script_journal.specs.Lawful.{Marked, shown, submitted}
 use Rattle.tp4_relay.specs.Allowed.{marked}
 use Rattle.std.proofs.lemmas.Grind.{get_or_default_zero}
+use Rattle.osi_base.proofs.Members.{all_weaker}
 use Rattle.tp4_relay.proofs.Served.{open_bound, pairs_grow}
 use Rattle.tp4_relay.specs.Pairs.{Change, Closes, Gives, Turns, changed, inbound_changed, is_open, open_places, outbound_changed, places_from}
 use Rattle.tp4_relay.specs.Pump.{BalancesBy, Parts, PumpStep, ServesAt, ServesEach, ServesIf, ServesOpen, ServesPair, ServesWay, SetsCredit, Submits, credit_now, far_end, near_end, unit_call, way_of}
@@ -38,7 +39,7 @@ use Rattle.tp4_relay.proofs.Commuting.{kept_more}
 use Rattle.tp4_relay.proofs.Giving.{changed_at, ends_differ, first_gone, inbound_claimed, left_all, left_far, left_first, left_waiting, may_submit, other_differs, outbound_unclaimed}
 use Rattle.tp4_relay.proofs.PairsHold.{PairHolds, if_changed}
 use Rattle.tp4_relay.proofs.Telling.{told_allowed, told_done, told_refused}
-use Rattle.tp4_relay.proofs.Tidy.{all_each, all_notable, tidy_all}
+use Rattle.tp4_relay.proofs.Tidy.{all_notable, tidy_all}
 use Rattle.tpdu.specs.declared.service.EndTold.TheVariants as tells
 
 -- ---- other pairs
@@ -499,7 +500,7 @@ module _ {S : Type 0} (has : S → ℕ → Type 0) (ends : S → ℕ) (honest : 
       let p = pair_leaves kept first here old s.0 s.1 s.3 tidy is s.5 in
       let middle : Kept = kept_after kept s.3 in
       let later : AllByRecursion (λ (x : ℕ). x < length middle.pairs) places =
-      all_each (λ (x : ℕ). x < length kept.pairs) (λ (x : ℕ). x < length middle.pairs) places (λ x low. (let g = pairs_grow kept s.3 in omega (arith, low, g))) bounds.1 in
+      all_weaker (λ (x : ℕ). x < length kept.pairs) (λ (x : ℕ). x < length middle.pairs) places (λ x low. (let g = pairs_grow kept s.3 in omega (arith, low, g))) bounds.1 in
       let Here : ℕ → Heading → ℕ → List MarkedUnit → Type 0 = λ at heading end units. (first ≡ at) × PairRefuses connects calls old kept first s.1 s.3 s.0 s.5 heading end units in
       let Rest : ℕ → Heading → ℕ → List MarkedUnit → Type 0 = EachRefuses connects calls places s.0 middle s.2 s.4 new last s.6 in
       both_more (Either (Either Before Here) Rest place) (Either Before (Either Here Rest) place) pair (reordered Before Here Rest place)

@@ -5,6 +5,7 @@ use Rattle.std.specs.List.{AllByRecursion}
 use Rattle.std.proofs.lemmas.Bool.{ne_eqb}
 use Rattle.std.proofs.lemmas.List.{append-nil, length-map}
 use Rattle.osi_base.proofs.Young.{all_last}
+use Rattle.osi_base.proofs.Members.{all_weaker}
 use Rattle.script_journal.specs.declared.event.Event.{Event}
 use Rattle.script_journal.specs.declared.event.Event.TheVariants as events
 use Rattle.tp4_relay.specs.declared.claim.Claim.{Claim}
@@ -24,10 +25,6 @@ use Rattle.tpdu.specs.declared.service.EndTold.TheVariants as tells
 pub all_map : {X Y : Type 0} (P : X → Type 0) (Q : Y → Type 0) (f : X → Y) (xs : List X) → ((x : X) → P x → Q (f x)) → AllByRecursion P xs → AllByRecursion Q (map f xs)
 all_map P Q f [] each all = tt
 all_map P Q f (x ∷ xs) each all = (each x all.0, all_map P Q f xs each all.1)
-
-pub all_each : {X : Type 0} (P Q : X → Type 0) (xs : List X) → ((x : X) → P x → Q x) → AllByRecursion P xs → AllByRecursion Q xs
-all_each P Q [] each all = tt
-all_each P Q (x ∷ xs) each all = (each x all.0, all_each P Q xs each all.1)
 
 -- ---- columns that rise
 
@@ -110,8 +107,8 @@ tidy_named claims pairs named more le t = record {
   outbounds = t.outbounds;
   claimed = t.claimed;
   unclaimed = t.unclaimed;
-  claims_named = all_each (λ (claim : Claim). claim.end ≤ named) (λ (claim : Claim). claim.end ≤ more) claims (λ claim is. omega (arith, is, le)) t.claims_named;
-  outbounds_named = all_each (λ (pair : Pair). pair.outbound ≤ named) (λ (pair : Pair). pair.outbound ≤ more) pairs (λ pair is. omega (arith, is, le)) t.outbounds_named;
+  claims_named = all_weaker (λ (claim : Claim). claim.end ≤ named) (λ (claim : Claim). claim.end ≤ more) claims (λ claim is. omega (arith, is, le)) t.claims_named;
+  outbounds_named = all_weaker (λ (pair : Pair). pair.outbound ≤ named) (λ (pair : Pair). pair.outbound ≤ more) pairs (λ pair is. omega (arith, is, le)) t.outbounds_named;
 }
 
 -- ---- an indicated end goes, or is new
@@ -128,9 +125,9 @@ tidy_lost end claims pairs named t = record {
   rise = rises_map claim_of (lost end) (lost_end end) claims t.rise;
   inbounds = t.inbounds;
   outbounds = t.outbounds;
-  claimed = all_each (λ (pair : Pair). is_claimed claims pair.inbound ≡ true) (λ (pair : Pair). is_claimed (map (lost end) claims) pair.inbound ≡ true) pairs
+  claimed = all_weaker (λ (pair : Pair). is_claimed claims pair.inbound ≡ true) (λ (pair : Pair). is_claimed (map (lost end) claims) pair.inbound ≡ true) pairs
       (λ pair is. (claims_lost end pair.inbound claims ∙ is)) t.claimed;
-  unclaimed = all_each (λ (pair : Pair). is_claimed claims pair.outbound ≡ false) (λ (pair : Pair). is_claimed (map (lost end) claims) pair.outbound ≡ false) pairs
+  unclaimed = all_weaker (λ (pair : Pair). is_claimed claims pair.outbound ≡ false) (λ (pair : Pair). is_claimed (map (lost end) claims) pair.outbound ≡ false) pairs
       (λ pair is. (claims_lost end pair.outbound claims ∙ is)) t.unclaimed;
   claims_named = all_map (λ (claim : Claim). claim.end ≤ named) (λ (claim : Claim). claim.end ≤ named) (lost end) claims (λ claim is. subst (λ (n : ℕ). n ≤ named) (sym (lost_end end claim)) is) t.claims_named;
   outbounds_named = t.outbounds_named;
@@ -150,7 +147,7 @@ tidy_claimed end (Some row) claims pairs named le below other t =
       rise = rises_last claim_of claims claim t.rise below;
       inbounds = t.inbounds;
       outbounds = t.outbounds;
-      claimed = all_each (λ (pair : Pair). is_claimed claims pair.inbound ≡ true) (λ (pair : Pair). is_claimed (claims ++ claim ∷ []) pair.inbound ≡ true) pairs
+      claimed = all_weaker (λ (pair : Pair). is_claimed claims pair.inbound ≡ true) (λ (pair : Pair). is_claimed (claims ++ claim ∷ []) pair.inbound ≡ true) pairs
           (λ pair is. (any_append (λ (c : Claim). c.end == pair.inbound) claims claim ∙ ap (λ (b : Bool). b || (end == pair.inbound)) is)) t.claimed;
       unclaimed = both_other pairs t.unclaimed other;
       claims_named = all_last (λ (c : Claim). c.end ≤ named) claims claim t.claims_named le;
@@ -205,14 +202,14 @@ none_claimed end (claim ∷ claims) named above all =
 
 pub allowed_notable : (kept : Kept) (event : Event) → IsTidy kept → IsAllowed kept event → IsNotable kept event
 allowed_notable kept (events.Incoming heard) t may = (
-  all_each (λ (claim : Claim). claim.end ≤ kept.named) (λ (claim : Claim). claim.end < heard.end) kept.claims (λ claim is. omega (arith, is, may)) t.claims_named,
-  all_each (λ (pair : Pair). pair.outbound ≤ kept.named) (λ (pair : Pair). pair.outbound ≢ heard.end) kept.pairs (λ pair is same. omega (arith, is, may, same)) t.outbounds_named,
+  all_weaker (λ (claim : Claim). claim.end ≤ kept.named) (λ (claim : Claim). claim.end < heard.end) kept.claims (λ claim is. omega (arith, is, may)) t.claims_named,
+  all_weaker (λ (pair : Pair). pair.outbound ≤ kept.named) (λ (pair : Pair). pair.outbound ≢ heard.end) kept.pairs (λ pair is same. omega (arith, is, may, same)) t.outbounds_named,
 )
 allowed_notable kept (events.Joined i o) t may = (
   may.indicated,
   none_claimed o kept.claims kept.named may.unnamed t.claims_named,
   may.later,
-  (let new = may.unnamed in all_each (λ (pair : Pair). pair.outbound ≤ kept.named) (λ (pair : Pair). pair.outbound < o) kept.pairs (λ pair is. omega (arith, is, new)) t.outbounds_named),
+  (let new = may.unnamed in all_weaker (λ (pair : Pair). pair.outbound ≤ kept.named) (λ (pair : Pair). pair.outbound < o) kept.pairs (λ pair is. omega (arith, is, new)) t.outbounds_named),
 )
 allowed_notable kept event t may = tt
 

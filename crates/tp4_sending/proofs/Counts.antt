@@ -1,5 +1,5 @@
 -- Numbers stand in order and grow no faster than ticks, also after one more sending: for the first time, or again.
-use Rattle.std.proofs.Common.{◌≡◌, ℕ, ◌+◌, ◌-◌, ◌*◌, ◌<◌, ◌≤◌, Bool, true, false, nat_lt, nat_le, if◌then◌else◌, ◌||◌, List, [], ◌∷◌, ◌++◌, length, length-append, max, ◌⊎◌, inl, inr, refl, sym, subst, arith, Option, Some, None, All}
+use Rattle.std.proofs.Common.{◌≡◌, ℕ, ◌+◌, ◌-◌, ◌*◌, ◌<◌, ◌≤◌, true, false, nat_lt, nat_le, ◌||◌, List, [], ◌∷◌, ◌++◌, length, length-append, max, ◌⊎◌, inl, inr, refl, sym, subst, arith, Option, Some, None, All}
 use Rattle.std.specs.Prelude.{slice_set}
 use Rattle.std.specs.List.{sum_by}
 use Rattle.std.proofs.Math.Nat.{mul-le-mul_left}
@@ -9,6 +9,7 @@ use Rattle.std.proofs.lemmas.List.Elements.{All-push, All-set, All-weaker}
 use Rattle.tp4_number.specs.declared.blocks.Blocks.{Blocks}
 use Rattle.tp4_number.specs.Formats.{block_of}
 use Rattle.tp4_number.specs.Sender.{may_send, marked}
+use Rattle.tp4_number.proofs.Past.{if_kept}
 use Rattle.tpdu.specs.declared.tpdu.Format.{Format}
 use Rattle.tpdu.specs.declared.tpdu.Format.TheVariants.{Normal, Extended}
 use Rattle.tp4_sending.specs.declared.tries.Tries.{Tries}
@@ -17,10 +18,6 @@ use Rattle.tp4_sending.specs.SendingHalf.{FlowSender, UrgentSender, at, block_in
 use Rattle.tp4_sending.specs.Kept.{IsCounted, IsSending, IsTried, IsGone, IsUpTo, urgent_base, most_granted}
 use Rattle.tp4_sending.specs.Pieces.{again, once}
 use Rattle.tp4_sending.specs.steps.Again as again_at
-
-by_test : {A : Type 0} (P : A → Type 0) (b : Bool) (x y : A) → (b ≡ true → P x) → (b ≡ false → P y) → P (if b then x else y)
-by_test P true x y t f = t refl
-by_test P false x y t f = f refl
 
 -- a number from base on is sent: one of the window again, or the next one; the numbers below `to` are then sent
 pub record Goes (block clock base next n to : ℕ) (b : Blocks) : Type 0 where
@@ -66,10 +63,10 @@ counted_marked block clock base next n to b h g =
     let newer : block * b.newest ≤ block * clock = mul-le-mul_left block h.newest in
     let later : block * b.second ≤ block * clock = mul-le-mul_left block h.second in
     let top = counted_high block clock base next n to b h g in
-    by_test (IsCounted block clock base to) (nat_lt n b.first) _ _
+    if_kept (IsCounted block clock base to) (nat_lt n b.first) _ _
     (λ e. let below : n < b.first = ltb-true _ _ e in
     counted_in block clock base to _ g.from top (omega arith, omega arith) (h.newest, omega arith, h.third) (h.grown, omega (arith, later, h.grown2), h.grown3))
-    (λ _. by_test (IsCounted block clock base to) (nat_lt n (b.first + block)) _ _
+    (λ _. if_kept (IsCounted block clock base to) (nat_lt n (b.first + block)) _ _
     (λ e. let below : n < b.first + block = ltb-true _ _ e in
     counted_in block clock base to _ g.from top (omega arith, omega arith) (omega arith, h.second, h.third) (omega (arith, newer, h.grown), h.grown2, h.grown3))
     (λ e. let begins : b.first + block ≤ n = ltb-false _ _ e in
@@ -79,8 +76,8 @@ counted_marked block clock base next n to b h g =
 -- high never falls
 marked_high : (block : ℕ) (b : Blocks) (n now : ℕ) → b.high ≤ (marked block b n now).high
 marked_high block b n now =
-    by_test (λ (to : Blocks). b.high ≤ to.high) (nat_lt n b.first) _ _ (λ _. omega arith)
-    (λ _. by_test (λ (to : Blocks). b.high ≤ to.high) (nat_lt n (b.first + block)) _ _ (λ _. omega arith) (λ _. omega arith))
+    if_kept (λ (to : Blocks). b.high ≤ to.high) (nat_lt n b.first) _ _ (λ _. omega arith)
+    (λ _. if_kept (λ (to : Blocks). b.high ≤ to.high) (nat_lt n (b.first + block)) _ _ (λ _. omega arith) (λ _. omega arith))
 
 up_on : (noted : Option ℕ) (high to : ℕ) → IsUpTo noted high → high ≤ to → IsUpTo noted to
 up_on None high to h l = tt

@@ -43,7 +43,7 @@ counts_low size (unit ∷ units) some =
     omega (arith, here, rest, counts, lengths)
 
 -- the first units go
-freed_end : (size n first : ℕ) (units : List (List ℕ)) → end_of size (freed_by size n first units) ≡ first + sum_by (count_in size) units
+pub freed_end : (size n first : ℕ) (units : List (List ℕ)) → end_of size (freed_by size n first units) ≡ first + sum_by (count_in size) units
 freed_end size n first [] = refl
 freed_end size n first (unit ∷ units) =
     by (nat_le (first + count_in size unit) n) (freed_end size n (first + count_in size unit) units) (sum_by-cons (count_in size) unit units)

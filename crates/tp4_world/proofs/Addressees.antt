@@ -3,6 +3,7 @@
 use Rattle.std.proofs.Common.{◌≡◌, ℕ, zero, suc, ◌+◌, ◌-◌, Bool, true, false, not, ◌&&◌, ◌||◌, ◌==◌, nat_lt, nat_le, List, [], ◌∷◌, ◌++◌, drop, length, Option, Some, None, if◌then◌else◌}
 use Rattle.std.specs.Prelude.{is_some}
 use Rattle.std.specs.List.{AllByRecursion}
+use Rattle.osi_base.proofs.Members.{all_both}
 use Rattle.tpdu.specs.declared.tpdu.Tpdu.{Tpdu}
 use Rattle.tpdu.specs.declared.tpdu.Tpdu.TheVariants.{Cr, Cc, Dr, Dc, Dt, Ed, Ak, Ea, Er}
 use Rattle.tp4_number.specs.declared.got.Got.{Got}
@@ -45,10 +46,6 @@ use Rattle.tp4_conn.specs.WaitBeforeClose.{wait_before_close_tick, wait_before_c
 abbrev pub AllTo : List ℕ → List Sent → Type 0
 AllTo to tpdus = AllByRecursion (λ sent. sent.to ≡ to) tpdus
 
-pub all_append : {A : Type 0} (P : A → Type 0) (xs ys : List A) → AllByRecursion P xs → AllByRecursion P ys → AllByRecursion P (xs ++ ys)
-all_append P [] ys p q = q
-all_append P (x ∷ xs) ys p q = (p.0, all_append P xs ys p.1 q)
-
 pub either : {A : Type 0} (P : A → Type 0) (c : Bool) (x y : A) → P x → P y → P (if c then x else y)
 either P true x y p q = p
 either P false x y p q = q
@@ -71,7 +68,7 @@ dt_to to s n is = dts_to to s n (cut_at s.rules.piece s.queue.units (n - s.queue
 
 all_dts_to : (to : List ℕ) (s : FlowSender) (ns : List ℕ) → s.rules.to ≡ to → AllTo to (all_dts s ns)
 all_dts_to to s [] is = tt
-all_dts_to to s (n ∷ ns) is = all_append (λ sent. sent.to ≡ to) (dts_of s n) (all_dts s ns) (dt_to to s n is) (all_dts_to to s ns is)
+all_dts_to to s (n ∷ ns) is = all_both (λ sent. sent.to ≡ to) (dts_of s n) (all_dts s ns) (dt_to to s n is) (all_dts_to to s ns is)
 
 eds_to : (to : List ℕ) (s : FlowSender) (n : ℕ) (units : List (List ℕ)) → s.rules.to ≡ to → AllTo to (eds s n units)
 eds_to to s n [] is = tt
@@ -80,7 +77,7 @@ eds_to to s n (unit ∷ units) is = (is, tt)
 then_to : (to : List ℕ) (x : Sendings) (next : FlowSender → Sendings) → SendsTo to x → ((s : FlowSender) → s.rules.to ≡ to → SendsTo to (next s)) → SendsTo to (then_sends x next)
 then_to to x next h more =
     let y = more x.sender h.rules in
-    record { rules = y.rules; tpdus = all_append (λ sent. sent.to ≡ to) x.tpdus (next x.sender).tpdus h.tpdus y.tpdus }
+    record { rules = y.rules; tpdus = all_both (λ sent. sent.to ≡ to) x.tpdus (next x.sender).tpdus h.tpdus y.tpdus }
 
 urgent_to : (to : List ℕ) (s : FlowSender) → s.rules.to ≡ to → SendsTo to (one_urgent s)
 urgent_to to s is =
@@ -94,7 +91,7 @@ normals_to to (suc fuel) s is =
     let more = normals_to to fuel (sent_normal s) is in
     either (SendsTo to) (not (has_next s)) _ _ (nothing_to to s is)
     (either (SendsTo to) (rule_allows s s.numbers.blocks s.numbers.next) _ _
-    (record { rules = more.rules; tpdus = all_append (λ sent. sent.to ≡ to) (dts_of s s.numbers.next) (normals fuel (sent_normal s)).tpdus (dt_to to s s.numbers.next is) more.tpdus })
+    (record { rules = more.rules; tpdus = all_both (λ sent. sent.to ≡ to) (dts_of s s.numbers.next) (normals fuel (sent_normal s)).tpdus (dt_to to s s.numbers.next is) more.tpdus })
     (either (SendsTo to) (is_noted s.noted s.numbers.next) _ _ (nothing_to to s is) (record { rules = is; tpdus = tt })))
 
 where_to : (to : List ℕ) (s : FlowSender) → s.rules.to ≡ to → SendsTo to (normals_where s)
@@ -164,7 +161,7 @@ frozen_to : (to : List ℕ) (b : EndRecord) (events : List EndEvent) (tpdus : Li
 frozen_to to b events tpdus is all = record { base = is; stage = tt; tpdus = all }
 
 led_to : (to : List ℕ) (events : List EndEvent) (tpdus : List Sent) (m : Moved) → AllTo to tpdus → MovesTo to m → MovesTo to (led_by events tpdus m)
-led_to to events tpdus m all h = record { base = h.base; stage = h.stage; tpdus = all_append (λ sent. sent.to ≡ to) tpdus m.tpdus all h.tpdus }
+led_to to events tpdus m all h = record { base = h.base; stage = h.stage; tpdus = all_both (λ sent. sent.to ≡ to) tpdus m.tpdus all h.tpdus }
 
 -- ---- CrWait and WaitBeforeClose
 
@@ -173,7 +170,7 @@ confirmed_to to b o text is =
     let s = opened_to to (at b.clock (halves_of b o).sending) is in record {
       base = is;
       stage = (s.rules, is);
-      tpdus = all_append (λ sent. sent.to ≡ to) (opened (at b.clock (halves_of b o).sending)).tpdus (ak (halves_of b o).receiving ∷ []) s.tpdus (is, tt);
+      tpdus = all_both (λ sent. sent.to ≡ to) (opened (at b.clock (halves_of b o).sending)).tpdus (ak (halves_of b o).receiving ∷ []) s.tpdus (is, tt);
     }
 
 cr_wait_to : (to : List ℕ) (b : EndRecord) (w : InCrWait) (tpdu : Tpdu) → b.to ≡ to → MovesTo to (cr_wait_tpdu b w tpdu)

@@ -2,6 +2,7 @@
 -- So where the addresses of all partners are of some kind, and units are taken from such addresses alone, all TPDUs go to such addresses.
 use Rattle.std.proofs.Common.{◌≡◌, ℕ, zero, suc, ◌-◌, Bool, true, false, not, ◌==◌, List, [], ◌∷◌, slice_get, slice_set, Option, Some, None, refl, sym, ◌∙◌, ap, subst}
 use Rattle.std.specs.List.{AllByRecursion, list_any}
+use Rattle.osi_base.proofs.Members.{all_both}
 use Rattle.tpdu.specs.Values.{TpduAndSum}
 use Rattle.tpdu.specs.declared.tpdu.Tpdu.{Tpdu}
 use Rattle.tpdu.specs.declared.tpdu.Tpdu.TheVariants.{Cr, Cc, Dr, Dc, Dt, Ed, Ak, Ea, Er}
@@ -18,7 +19,7 @@ use Rattle.tp4_entity.specs.References.{least_free}
 use Rattle.tp4_entity.specs.Silence.{is_silent}
 use Rattle.tp4_entity.specs.Step.{call_of, calling, calling_end, connecting, first_due, kept_end, ticking, ticking_at, ticking_end}
 use Rattle.tp4_entity.specs.Unit.{HearsUnit, all_met, TakesBy, TakesUnit}
-use Rattle.tp4_world.proofs.Addressees.{AllTo, MovesTo, PointsTo, all_append, either, row_to}
+use Rattle.tp4_world.proofs.Addressees.{AllTo, MovesTo, PointsTo, either, row_to}
 
 module _ (Fine : List ℕ → Type 0) where
   -- an end whose partner's address is of that kind
@@ -159,7 +160,7 @@ module _ (Fine : List ℕ → Type 0) where
         record {
           own_is = rest.own_is ∙ first.own_is;
           ends = rest.ends;
-          tpdus = all_append (λ sent. Fine sent.to) (met wrap now e from tpdu).tpdus (all_met wrap now (met wrap now e from tpdu).entity from tpdus).tpdus first.tpdus rest.tpdus;
+          tpdus = all_both (λ sent. Fine sent.to) (met wrap now e from tpdu).tpdus (all_met wrap now (met wrap now e from tpdu).entity from tpdus).tpdus first.tpdus rest.tpdus;
         }
 
     pub hearing_fine : (wrap : ℕ → ℕ → ℕ) (now : ℕ) (e : Entity) (octets : List ℕ) (acted : Acted) → EndsFine e.ends → HearsUnit wrap now e from octets acted → ActsFine e.own acted

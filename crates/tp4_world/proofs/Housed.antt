@@ -6,6 +6,7 @@ use Rattle.osi_base.specs.Calls.{Call}
 use Rattle.osi_base.specs.declared.unit.Arrival.{Arrival}
 use Rattle.osi_base.specs.declared.unit.Up.{Up}
 use Rattle.osi_base.specs.declared.unit.Up.TheVariants.{Unit as Came, Note as Noted}
+use Rattle.osi_base.proofs.Members.{all_both}
 use Rattle.script_journal.specs.declared.cause.Refused.{Refused}
 use Rattle.script_journal.specs.declared.cause.Refused.TheVariants as refusals
 use Rattle.script_journal.specs.declared.event.Event.{Event}
@@ -16,7 +17,6 @@ use Rattle.tp4_entity.specs.declared.refusal.EntityRefusal.{EntityRefusal}
 use Rattle.tp4_entity.specs.Entity.{Acted, Entity}
 use Rattle.tp4_entity.specs.References.{least_free}
 use Rattle.tp4_entity.specs.Step.{connect_refusal, connecting, user_refusal}
-use Rattle.law_tp4_proper.proofs.Octets.{all_both}
 use Rattle.tp4_world.specs.Run.{Acts, Arrives, BeginsAt, Calls, CallsAt, CallsBy, CallsEnd, Connects, ConnectsBy, HearsAll, HearsIf, IsRefused, NoneDue, NoneLeft, OneDue, OneMore, Settles, TicksAll, TicksEntity, TooMany, clock_of, is_for}
 use Rattle.tp4_world.specs.Ended.{has_ended}
 use Rattle.tp4_world.specs.Telling.{told_connect, told_refusal}

@@ -6,7 +6,7 @@ use Rattle.tp4_world.specs.World.{is_at, latest, latest_from}
 use Rattle.tp4_world.specs.declared.place.EndAt.{EndAt}
 use Rattle.tp4_world.specs.steps.Parts.{AreLatest, key_of}
 
-latest_last : (next found : ℕ) (ends : List EndAt) (end : EndAt) (system reference : ℕ)
+pub latest_last : (next found : ℕ) (ends : List EndAt) (end : EndAt) (system reference : ℕ)
     → latest_from next found (ends ++ end ∷ []) system reference ≡ (if is_at system reference end then next + length ends else latest_from next found ends system reference)
 latest_last next found [] end system reference = ap (λ (n : ℕ). if is_at system reference end then n else found) (omega arith)
 latest_last next found (one ∷ ends) end system reference =

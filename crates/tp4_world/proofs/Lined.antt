@@ -75,7 +75,7 @@ shown_none : (raw : Bool) (system : ℕ) (from octets : List ℕ) → asked_in (
 shown_none true system from octets = refl
 shown_none false system from octets = refl
 
-told_none : (ups : List (Up (List ℕ))) → asked_in (told ups) ≡ []
+pub told_none : (ups : List (Up (List ℕ))) → asked_in (told ups) ≡ []
 told_none [] = refl
 told_none (Noted note ∷ ups) = note_none note (told ups) (told_none ups)
 told_none (Came arrival ∷ ups) =

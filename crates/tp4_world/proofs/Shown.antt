@@ -62,7 +62,7 @@ new_ends : (ends : List (Option End)) → AllByRecursion (λ place. place ≡ No
 new_ends [] none = tt
 new_ends (place ∷ ends) none = (subst (EndFine IsApart) (sym none.0) tt, new_ends ends none.1)
 
-nothing_stands : (count : ℕ) → AllByRecursion (λ (place : Option End). place ≡ None) (replicate count None)
+pub nothing_stands : (count : ℕ) → AllByRecursion (λ (place : Option End). place ≡ None) (replicate count None)
 nothing_stands zero = tt
 nothing_stands (suc count) = (refl, nothing_stands count)
 

@@ -4,17 +4,18 @@ use Rattle.std.specs.Prelude.{is_none, is_some}
 use Rattle.std.specs.List.{AllByRecursion}
 use Rattle.std.proofs.lemmas.Bool.{ltb-false}
 use Rattle.std.proofs.lemmas.Option.{none-some}
+use Rattle.osi_base.proofs.Members.{all_both}
 use Rattle.law_carrier_answers.specs.Answers.{AreOctets}
 use Rattle.script_journal.specs.declared.event.Event.TheVariants as events
 use Rattle.script_journal.specs.declared.cause.Refused.{Refused}
 use Rattle.script_journal.specs.declared.cause.Refused.TheVariants as refusals
 use Rattle.script_lines.specs.declared.line.Line.TheVariants as lines
 use Rattle.tpdu.specs.declared.service.Options.{Options}
+use Rattle.tp4_number.proofs.Past.{if_kept}
 use Rattle.tp4_conn.specs.Calls.{IsCall}
 use Rattle.tp4_conn.specs.Proper.{IsProperCall}
 use Rattle.tp4_conn.specs.declared.call.ConnectRequest.{ConnectRequest}
 use Rattle.tp4_conn.specs.declared.call.UserCall.{UserCall}
-use Rattle.tp4_conn.proofs.Timely.{if_kept}
 use Rattle.tp4_entity.specs.declared.refusal.ConnectRefusal.{ConnectRefusal}
 use Rattle.tp4_entity.specs.declared.refusal.EntityRefusal.{EntityRefusal}
 use Rattle.tp4_entity.specs.Entity.{Entity}
@@ -25,7 +26,6 @@ use Rattle.tp4_entity.proofs.Standings.{free_least}
 use Rattle.law_tp4_proper.specs.Octets.{CallInOctets}
 use Rattle.law_tp4_proper.proofs.Ends.{calling_rests, connecting_rests}
 use Rattle.law_tp4_proper.proofs.OctetEnds.{calling_in, connecting_in}
-use Rattle.law_tp4_proper.proofs.Octets.{all_both}
 use Rattle.tp4_world.specs.Run.{BeginsAt, Calls, CallsAt, CallsBy, CallsEnd, ConnectsBy, IsRefused, transport_address}
 use Rattle.tp4_world.specs.Ended.{has_ended}
 use Rattle.tp4_world.specs.Telling.{call_events, connect_event, told_refusal}

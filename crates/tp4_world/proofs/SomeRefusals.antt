@@ -2,6 +2,7 @@
 use Rattle.std.proofs.Common.{◌≡◌, ℕ, ◌+◌, ◌==◌, ◌||◌, nat_lt, nat_le, Bool, true, false, List, length, Option, Some, None, refl, sym, ◌∙◌, ap}
 use Rattle.std.specs.List.{sum_by}
 use Rattle.std.proofs.lemmas.Option.{none-some}
+use Rattle.tp4_number.proofs.Past.{if_kept}
 use Rattle.script_journal.specs.declared.cause.Refused.{Refused}
 use Rattle.script_journal.specs.declared.cause.Refused.TheVariants as refusals
 use Rattle.tp4_flow.specs.declared.rules.SubmitRefusal.{SubmitRefusal}
@@ -15,7 +16,6 @@ use Rattle.tp4_conn.specs.declared.call.CallRefusal.{CallRefusal}
 use Rattle.tp4_conn.specs.declared.call.UserCall.{UserCall}
 use Rattle.tp4_conn.specs.declared.call.UserCall.TheVariants as asks
 use Rattle.tp4_conn.specs.declared.states.StateData.{StateData}
-use Rattle.tp4_conn.proofs.Timely.{if_kept}
 use Rattle.tp4_entity.specs.declared.refusal.EntityRefusal.{EntityRefusal}
 use Rattle.tp4_entity.specs.declared.refusal.EntityRefusal.TheVariants as entities
 use Rattle.tp4_entity.specs.Step.{end_refusal, refused_by}

@@ -9,6 +9,7 @@ use Rattle.osi_base.specs.declared.unit.Wish.{Wish}
 use Rattle.osi_base.specs.declared.unit.Offered.{Offered}
 use Rattle.osi_base.specs.Link.{Link}
 use Rattle.osi_base.specs.Calls.{Call, Keeps, Offer}
+use Rattle.osi_base.proofs.Members.{all_both}
 use Rattle.law_carrier_answers.specs.Answers.{CanBeAsked, MayBeOffered, Offering, asked_of}
 use Rattle.law_carrier_answers.proofs.Answered.{answered_by}
 use Rattle.law_carrier_answers.proofs.Gatherings.{some_gathering}
@@ -24,7 +25,6 @@ use Rattle.tp4_conn.specs.Proper.{AreSendable, IsSendable}
 use Rattle.tp4_entity.specs.Entity.{Acted, Entity}
 use Rattle.law_tp4_proper.specs.Octets.{AreAddressed, IsAddressed, StepInOctets}
 use Rattle.law_tp4_proper.specs.Rest.{IsProperStep}
-use Rattle.law_tp4_proper.proofs.Octets.{all_both}
 use Rattle.law_tp4_proper.proofs.Writings.{some_writing}
 use Rattle.tp4_world.specs.Run.{Acts, SendsTpdu, SendsTpdus, transport_wish}
 use Rattle.tp4_world.specs.Telling.{drop_events, ends_after, ends_with, events_after}

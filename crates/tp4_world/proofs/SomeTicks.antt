@@ -6,11 +6,11 @@ use Rattle.std.proofs.lemmas.Bool.{eq-eqb, eqb-false, eqb-true, ne_eqb}
 use Rattle.osi_base.specs.Calls.{Tick}
 use Rattle.law_carrier_answers.specs.Answers.{Ticking}
 use Rattle.law_carrier_answers.proofs.Answered.{answered_by}
+use Rattle.tp4_number.proofs.Past.{if_kept}
 use Rattle.script_journal.specs.declared.event.Event.{Event}
 use Rattle.script_journal.specs.declared.event.Event.TheVariants as events
 use Rattle.script_lines.specs.declared.line.Line.TheVariants as lines
 use Rattle.net_world.specs.Told.{told}
-use Rattle.tp4_conn.proofs.Timely.{if_kept}
 use Rattle.tp4_entity.specs.Entity.{Entity, at}
 use Rattle.tp4_entity.specs.Step.{dues, first_due, ticking, ticking_at}
 use Rattle.law_tp4_proper.specs.Octets.{EntityInOctets}

@@ -20,6 +20,7 @@ use Rattle.osi_base.specs.declared.unit.Wish.{Wish}
 use Rattle.osi_base.specs.Link.{Link, IsLawful, IsNote}
 use Rattle.osi_base.specs.Calls.{Call, Choose, Inject, IsSameLink, Keeps, NothingNew, Offer, Tick}
 use Rattle.osi_base.proofs.Chains.{same_on}
+use Rattle.osi_base.proofs.Members.{all_both}
 use Rattle.script_journal.specs.RawLawful.{clock_from, raw_address}
 use Rattle.script_journal.specs.declared.event.Event.{Event}
 use Rattle.script_journal.specs.declared.event.Event.TheVariants as events
@@ -35,7 +36,7 @@ use Rattle.tp4_flow.specs.declared.step.Sent.{Sent}
 use Rattle.tp4_flow.specs.declared.step.What.{What}
 use Rattle.tp4_flow.specs.declared.step.What.TheVariants as whats
 use Rattle.tp4_entity.specs.Entity.{Acted, Entity}
-use Rattle.tp4_world.proofs.Addressees.{all_append, either}
+use Rattle.tp4_world.proofs.Addressees.{either}
 use Rattle.tp4_world.proofs.Destinations.{ActsFine, EndsFine, SentFine}
 use Rattle.tp4_world.proofs.Places.{some_same}
 use Rattle.tp4_world.specs.Run.{Acts, SendsTpdu, SendsTpdus, transport_wish}
@@ -157,7 +158,7 @@ module _ (life : ℕ) (titles : List (List ℕ)) where
         let waited = these_waited (link old) offers.notes.notes s.ups (link pass.called).waiting h.rests.quiet offers.notes.waiting pass.gathers.waited in
         let notes : All IsNote s.ups = subst (λ (n : List (Up (List ℕ))). All IsNote n) waited offers.notes.all_notes in
         let stills : AreStill (drop_events system s.answer ++ told s.ups) =
-        all_append IsStill (drop_events system s.answer) (told s.ups) (drop_still system s.answer) (notes_still s.ups notes) in
+        all_both IsStill (drop_events system s.answer) (told s.ups) (drop_still system s.answer) (notes_still s.ups notes) in
         let floats = sent_apart old pass.called new journal (drop_events system s.answer ++ told s.ups) unit s.answer h from to (λ entry there. offers.grows entry (pass.gathers.grows entry there)) in
         subst (λ (xs : List Event). Carries new (journal ++ xs)) (sym s.made_is)
         (record {

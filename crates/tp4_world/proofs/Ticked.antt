@@ -17,14 +17,11 @@ use Rattle.tp4_world.specs.World.{World, entity_at, is_of, with_entity}
 use Rattle.tp4_world.specs.declared.place.EndAt.{EndAt}
 use Rattle.tp4_world.specs.declared.place.Placed.{Placed}
 use Rattle.tp4_world.specs.steps.Parts.{ChangesAt, Follows, Tells, TicksEach, TicksOnce, dues_at, systems_of, world_of}
+use Rattle.tp4_world.proofs.Having.{found as some_of}
 
 none_of : {A : Type 0} (o : Option A) → is_some o ≡ false → o ≡ None
 none_of None e = refl
 none_of (Some x) e = absurd cc
-
-some_of : {A : Type 0} (o : Option A) → is_some o ≡ true → (x : A) × (o ≡ Some x)
-some_of None e = absurd cc
-some_of (Some x) e = (x, refl)
 
 -- an entity of which one end fewer is due
 pub fewer_due : (now : ℕ) (placed changed : List Placed) (system place : ℕ) → position (is_of system) placed ≡ Some place

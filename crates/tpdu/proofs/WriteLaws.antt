@@ -9,7 +9,7 @@ use Rattle.tpdu.specs.Writing.{kind_for, sums_for, parts_for, is_summed, IsSpell
 use Rattle.tpdu.proofs.Spellings.{length-fixed_for, length-header, count_for-is}
 use Rattle.tpdu.proofs.Written.{fine}
 
-or_true : (a b : Bool) → b ≡ true → (a || b) ≡ true
+pub or_true : (a b : Bool) → b ≡ true → (a || b) ≡ true
 or_true true b e = refl
 or_true false b e = e
 

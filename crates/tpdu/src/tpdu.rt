@@ -1,5 +1,10 @@
 //! TPDUs as values (X.224, structure and encoding of TPDUs).
 
+ghost use Rattle.std.specs.Prelude.{◌≡◌};
+ghost use Rattle.tpdu.specs.Values.{tpdu_of};
+ghost use Rattle.tpdu.specs.Writing.{kind_for};
+
+use crate::kind::Kind;
 use osi_base::Bytes;
 
 /// The format of numbers and credits: 7 and 4 bits in normal formats, 31 and 16 in extended formats.
@@ -183,4 +188,42 @@ pub enum Tpdu {
         cause: u8,
         rejected: Option<Bytes>,
     },
+}
+
+impl TpduRef<'_> {
+    /// The kind of the TPDU.
+    pub fn kind(&self) -> Kind
+        ensures { result ≡ kind_for (tpdu_of self.now) }
+    {
+        match self {
+            TpduRef::Cr { .. } => Kind::Cr,
+            TpduRef::Cc { .. } => Kind::Cc,
+            TpduRef::Dr { .. } => Kind::Dr,
+            TpduRef::Dc { .. } => Kind::Dc,
+            TpduRef::Dt { .. } => Kind::Dt,
+            TpduRef::Ed { .. } => Kind::Ed,
+            TpduRef::Ak { .. } => Kind::Ak,
+            TpduRef::Ea { .. } => Kind::Ea,
+            TpduRef::Er { .. } => Kind::Er,
+        }
+    }
+}
+
+impl Tpdu {
+    /// The kind of the TPDU.
+    pub fn kind(&self) -> Kind
+        ensures { result ≡ kind_for self.now }
+    {
+        match self {
+            Tpdu::Cr { .. } => Kind::Cr,
+            Tpdu::Cc { .. } => Kind::Cc,
+            Tpdu::Dr { .. } => Kind::Dr,
+            Tpdu::Dc { .. } => Kind::Dc,
+            Tpdu::Dt { .. } => Kind::Dt,
+            Tpdu::Ed { .. } => Kind::Ed,
+            Tpdu::Ak { .. } => Kind::Ak,
+            Tpdu::Ea { .. } => Kind::Ea,
+            Tpdu::Er { .. } => Kind::Er,
+        }
+    }
 }

@@ -19,7 +19,6 @@ ghost use Rattle.tpdu.specs.Writing.{
   parameters_for,
   body_for,
   is_summed,
-  kind_for,
   header_count,
   count_for,
   IsSpelled,
@@ -32,7 +31,6 @@ ghost use Rattle.tpdu.specs.steps.Sums.{SumsIf};
 
 use crate::checksum::push_sum;
 use crate::fixed::push_fixed;
-use crate::kind::Kind;
 use crate::parameter::{CALLED, CALLING, EXTRA, PREFERRED, SIZE, SUBSEQUENCE};
 use crate::{Format, Tpdu};
 use osi_base::HeaderRefusal;
@@ -122,7 +120,7 @@ fn count_of(tpdu: &Tpdu, format: Format, summed: bool) -> usize
     ensures { result ≡ min (count_for format summed tpdu.now) usize.MAX }
 {
     let sum_count = if summed { SUM_COUNT } else { 0 };
-    let fixed_count = kind_of(tpdu).fixed_count(format);
+    let fixed_count = tpdu.kind().fixed_count(format);
     parameters_count(tpdu).saturating_add(1 + fixed_count + sum_count)
 }
 
@@ -197,23 +195,7 @@ fn preferred_count(preferred: Option<u32>) -> usize
 fn is_summed(tpdu: &Tpdu, sum: bool) -> bool
     ensures { result ≡ is_summed sum tpdu.now }
 {
-    sum || kind_of(tpdu).is_request()
-}
-
-fn kind_of(tpdu: &Tpdu) -> Kind
-    ensures { result ≡ kind_for tpdu.now }
-{
-    match tpdu {
-        Tpdu::Cr { .. } => Kind::Cr,
-        Tpdu::Cc { .. } => Kind::Cc,
-        Tpdu::Dr { .. } => Kind::Dr,
-        Tpdu::Dc { .. } => Kind::Dc,
-        Tpdu::Dt { .. } => Kind::Dt,
-        Tpdu::Ed { .. } => Kind::Ed,
-        Tpdu::Ak { .. } => Kind::Ak,
-        Tpdu::Ea { .. } => Kind::Ea,
-        Tpdu::Er { .. } => Kind::Er,
-    }
+    sum || tpdu.kind().is_request()
 }
 
 /// The code octet of the TPDU, with a credit of 4 bits in its low half.

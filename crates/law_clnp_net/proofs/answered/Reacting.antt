@@ -62,8 +62,9 @@ use Rattle.law_clnp_net.proofs.written.Discarding.{lost}
 use Rattle.law_clnp_net.proofs.written.Faults.{fault_fits}
 use Rattle.law_clnp_net.proofs.written.Greeting.{group_answered, redirected}
 use Rattle.clnp_system.proofs.Hops.{heard_are}
+use Rattle.clnp_system.proofs.Initial.{all_of}
 use Rattle.law_clnp_step.proofs.Lists.{all_both}
-use Rattle.law_clnp_net.proofs.written.Octets.{all_of, octets_take}
+use Rattle.law_clnp_net.proofs.written.Octets.{octets_take}
 use Rattle.law_clnp_net.proofs.written.Onward.{goes_on}
 use Rattle.law_clnp_net.proofs.written.Pieces.{sent_cut}
 use Rattle.law_clnp_net.proofs.written.Reading.{front_fits, front_hello_fits}

@@ -101,7 +101,7 @@ units_or_none : (found : Option Partial) → (found ≡ None) ⊎ (found ≡ Non
 units_or_none None = inl refl
 units_or_none (Some unit) = inr (λ e. absurd cc)
 
-room_or_not : (store : Holding) (found : Option Partial) (old new : Held) → HasNoRoom store found old new ⊎ (HasNoRoom store found old new → ⊥)
+pub room_or_not : (store : Holding) (found : Option Partial) (old new : Held) → HasNoRoom store found old new ⊎ (HasNoRoom store found old new → ⊥)
 room_or_not store found old new = by (units_or_none found) (cases_lt (length store.held) store.units) (cases_lt store.octets (octets_held store.held + (filled_places new - filled_places old)))
   where
     by : (found ≡ None) ⊎ (found ≡ None → ⊥) → (length store.held < store.units) ⊎ (store.units ≤ length store.held)

@@ -2,13 +2,14 @@
 -- refused for want of room; with the last one it is whole, and the others alone are held.
 use Rattle.std.proofs.Common.{◌≡◌, ◌⊎◌, ◌||◌, ℕ, ◌+◌, ◌-◌, ◌<◌, ◌≤◌, Bool, true, false, List, [], ◌∷◌, ◌++◌, length, Option, Some, None, refl, sym, ◌∙◌, ap, subst, inl, inr, arith, length-append}
 use Rattle.std.specs.List.{list_any}
-use Rattle.std.proofs.lemmas.Bool.{cases_lt, or_parts}
+use Rattle.std.proofs.lemmas.Bool.{or_parts}
 use Rattle.std.proofs.lemmas.List.{append-nil}
 use Rattle.clnp_segment.specs.Joining.{Clash, Held, Segment, Together, filled_places}
 use Rattle.clnp_segment.specs.Store.{At, Coming, HasNoRoom, Holding, Joins, Key, Partial, Takes, found_or_nothing, has_key, key_of, octets_held, partial_with}
 use Rattle.clnp_segment.specs.declared.store.Joined.TheVariants as joined
 use Rattle.law_clnp_net.specs.Joining.{HasMost, HasNone}
 use Rattle.law_clnp_net.proofs.joining.Fronts.{count_front, held_front, next_run, no_clash, not_filled, nothing_front, now_filled, own_key, together, whole_slots}
+use Rattle.law_clnp_net.proofs.answered.Storing.{room_or_not}
 
 -- of the unit of that key the octets at its front are held, beside these others; before the first, they alone are
 abbrev pub HoldsBeside : Key → ℕ → List ℕ → ℕ → List Partial → List Partial → Type 0
@@ -97,28 +98,6 @@ stands store coming header (octet ∷ came) run more missing others is missing_i
 
 -- ---- room
 
-no_some : (partial : Partial) → Some partial ≡ None → ⊥
-no_some partial e = cc e
-
-enough : (store : Holding) (found : Option Partial) (old new : Held) → octets_held store.held + (filled_places new - filled_places old) ≤ store.octets → (found ≡ None → length store.held < store.units)
-    → HasNoRoom store found old new → ⊥
-enough store found old new few units (inl none) = let lt = units none.0 in omega (arith, none.1, lt)
-enough store found old new few units (inr over) = omega (arith, few, over)
-
--- there is room, or there is none
-has_room : (store : Holding) (found : Option Partial) (old new : Held) → HasNoRoom store found old new ⊎ (HasNoRoom store found old new → ⊥)
-has_room store found old new = by (cases_lt store.octets (octets_held store.held + (filled_places new - filled_places old))) found
-  where
-    by : (store.octets < octets_held store.held + (filled_places new - filled_places old)) ⊎ (octets_held store.held + (filled_places new - filled_places old) ≤ store.octets) → (slot : Option Partial)
-        → HasNoRoom store slot old new ⊎ (HasNoRoom store slot old new → ⊥)
-    by (inl over) slot = inl (inr over)
-    by (inr few) (Some partial) = inr (enough store (Some partial) old new few (λ e. absurd (no_some partial e)))
-    by (inr few) None = by_units (cases_lt (length store.held) store.units)
-      where
-        by_units : (length store.held < store.units) ⊎ (store.units ≤ length store.held) → HasNoRoom store None old new ⊎ (HasNoRoom store None old new → ⊥)
-        by_units (inl lt) = inr (enough store None old new few (λ e. lt))
-        by_units (inr le) = inl (inl (refl, le))
-
 -- ---- the next run
 
 module _ (store : Holding) (now : ℕ) (coming : Coming) (header : ℕ) (came run : List ℕ) (missing : ℕ) (others : List Partial) (is : coming.segment ≡ next_run header came run missing)
@@ -150,7 +129,7 @@ module _ (store : Holding) (now : ℕ) (coming : Coming) (header : ℕ) (came ru
 
   pub takes_more : 0 < length run → 0 < missing → TakesMore
   takes_more some more =
-      by (has_room store Found.found (found_or_nothing Found.found coming.segment) (held_front header (came ++ run) missing))
+      by (room_or_not store Found.found (found_or_nothing Found.found coming.segment) (held_front header (came ++ run) missing))
     where
       new : Held
       new = held_front header (came ++ run) missing

@@ -1,14 +1,18 @@
 -- Segments of a unit that come in order: what is held of it is its front. The next run of its octets clashes with nothing, as it stands behind
 -- the front; with it the front is longer, and where nothing is missing then, all is there.
-use Rattle.std.proofs.Common.{◌≡◌, ◌⊎◌, ◌&&◌, ℕ, zero, suc, ◌+◌, ◌-◌, ◌<◌, Bool, true, List, [], ◌∷◌, ◌++◌, length, map, nat_eq, replicate, slice_get, Option, Some, None, refl, sym, ◌∙◌, ap, subst, inl, inr, arith, length-append}
+use Rattle.std.proofs.Common.{◌≡◌, ◌⊎◌, ◌&&◌, ℕ, zero, suc, ◌+◌, ◌-◌, ◌<◌, Bool, true, List, [], ◌∷◌, ◌++◌, length, map, replicate, slice_get, Option, Some, None, refl, sym, ◌∙◌, ap, subst, inl, inr, arith, length-append}
 use Rattle.std.specs.Prelude.{count_by, is_some}
-use Rattle.std.specs.Cmp.Lexicographic.{pointwise}
 use Rattle.std.proofs.lemmas.List.{append-nil, length-replicate}
 use Rattle.std.proofs.lemmas.List.Sums.{sum_by-cons}
 use Rattle.std.proofs.lemmas.Option.{slice_get_within}
 use Rattle.clnp_segment.specs.Joining.{Clash, Filled, Has, Held, Holds, Segment, Together, nothing_of}
 use Rattle.clnp_segment.specs.Joining.{Header, Octet, Total}
 use Rattle.clnp_segment.specs.Store.{Partial, has_key, key_of}
+use Rattle.clnp_segment.proofs.CutRuns.{get_left}
+use Rattle.clnp_segment.proofs.Slots.{none_filled}
+use Rattle.clnp_segment.proofs.Units.{empty_place}
+use Rattle.law_clnp_step.proofs.Joined.{same_numbers}
+use Rattle.law_clnp_net.proofs.answered.Slots.{filled_at}
 
 -- of a unit with that header the octets at its front are held, and so many are missing behind them
 abbrev pub held_front : ℕ → List ℕ → ℕ → Held
@@ -16,16 +20,11 @@ held_front header front missing = record { header = header; total = header + (le
 
 -- ---- places
 
-no_place : (n position octet : ℕ) → slice_get (replicate {A = Option ℕ} n None) position ≡ Some (Some octet) → ⊥
-no_place zero position octet e = cc e
-no_place (suc n) zero octet e = cc e
-no_place (suc n) (suc position) octet e = no_place n position octet e
-
 some_some : (x octet : ℕ) → Some (Some x) ≡ Some (Some octet) → Some x ≡ Some octet
 some_some x octet e = cc
 
 out_of_front : (came : List ℕ) (missing position octet : ℕ) → slice_get (map Some came ++ replicate missing None) position ≡ Some (Some octet) → slice_get came position ≡ Some octet
-out_of_front [] missing position octet e = absurd (no_place missing position octet e)
+out_of_front [] missing position octet e = absurd (empty_place missing position octet e)
 out_of_front (x ∷ came) missing zero octet e = some_some x octet e
 out_of_front (x ∷ came) missing (suc position) octet e = out_of_front came missing position octet e
 
@@ -38,12 +37,8 @@ pub length_front : (came : List ℕ) (missing : ℕ) → length (map Some came +
 length_front [] missing = length-replicate {A = Option ℕ} missing None ∙ omega arith
 length_front (x ∷ came) missing = omega (arith, length_front came missing)
 
-count_none : (n : ℕ) → count_by is_some (replicate {A = Option ℕ} n None) ≡ 0
-count_none zero = refl
-count_none (suc n) = sum_by-cons _ None (replicate {A = Option ℕ} n None) ∙ omega (arith, count_none n)
-
 pub count_front : (came : List ℕ) (missing : ℕ) → count_by is_some (map Some came ++ replicate missing None) ≡ length came
-count_front [] missing = count_none missing
+count_front [] missing = none_filled missing
 count_front (x ∷ came) missing = sum_by-cons _ (Some x) (map Some came ++ replicate missing None) ∙ omega (arith, count_front came missing)
 
 -- an octet of the front, or of the run behind it
@@ -60,11 +55,6 @@ out_of_both (x ∷ came) run (suc position) octet e = later (out_of_both came ru
     later : (slice_get came position ≡ Some octet) ⊎ IsIn came run position octet → (slice_get came position ≡ Some octet) ⊎ IsIn (x ∷ came) run (suc position) octet
     later (inl h) = inl h
     later (inr h) = inr (record { place = h.place; at = omega (arith, h.at); is = h.is })
-
-in_came : (came run : List ℕ) (position octet : ℕ) → slice_get came position ≡ Some octet → slice_get (came ++ run) position ≡ Some octet
-in_came [] run position octet e = absurd cc
-in_came (x ∷ came) run zero octet e = e
-in_came (x ∷ came) run (suc position) octet e = in_came came run position octet e
 
 in_run : (came run : List ℕ) (position place octet : ℕ) → position ≡ length came + place → slice_get run place ≡ Some octet → slice_get (came ++ run) position ≡ Some octet
 in_run [] run position place octet at e = ap (λ (n : ℕ). slice_get run n) (omega (arith, at)) ∙ e
@@ -106,7 +96,7 @@ module _ (header : ℕ) (came run : List ℕ) (missing : ℕ) where
       from_new position octet (inr h) = inr (record { place = h.place; at = h.at; is = h.is })
 
       to_new : (position octet : ℕ) → Holds Old position octet ⊎ Has Run position octet → Holds New position octet
-      to_new position octet (inl h) = in_front (came ++ run) missing position octet (in_came came run position octet (out_of_front came (length run + missing) position octet h))
+      to_new position octet (inl h) = in_front (came ++ run) missing position octet (get_left came run position octet (out_of_front came (length run + missing) position octet h))
       to_new position octet (inr h) = in_front (came ++ run) missing position octet (in_run came run position h.place octet h.at h.is)
 
   pub not_filled : 0 < missing → Filled New → ⊥
@@ -120,20 +110,11 @@ module _ (header : ℕ) (came run : List ℕ) (missing : ℕ) where
 pub whole_slots : (octets : List ℕ) → map Some octets ++ replicate 0 None ≡ map Some octets
 whole_slots octets = append-nil (map Some octets)
 
-pub filled_slots : (octets : List ℕ) (position : ℕ) → position < length (map Some octets) → (octet : ℕ) × (slice_get (map Some octets) position ≡ Some (Some octet))
-filled_slots [] position lt = absurd (omega (arith, lt))
-filled_slots (x ∷ octets) zero lt = (x, refl)
-filled_slots (x ∷ octets) (suc position) lt = filled_slots octets position (omega (arith, lt))
-
 pub now_filled : (header : ℕ) (octets : List ℕ) → Filled (held_front header octets 0)
 now_filled header octets =
-    subst (λ (slots : List (Option ℕ)). (position : ℕ) → position < length slots → (octet : ℕ) × (slice_get slots position ≡ Some (Some octet))) (sym (whole_slots octets)) (filled_slots octets)
+    subst (λ (slots : List (Option ℕ)). (position : ℕ) → position < length slots → (octet : ℕ) × (slice_get slots position ≡ Some (Some octet))) (sym (whole_slots octets)) (filled_at octets)
 
 -- ---- the store
-
-pub same_numbers : (xs : List ℕ) → pointwise nat_eq xs xs ≡ true
-same_numbers [] = refl
-same_numbers (x ∷ xs) = grind (arith, same_numbers xs)
 
 both_true : (a b : Bool) → a ≡ true → b ≡ true → (a && b) ≡ true
 both_true a b h k = ap (λ (c : Bool). c && b) h ∙ k

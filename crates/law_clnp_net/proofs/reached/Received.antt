@@ -7,9 +7,8 @@ use Rattle.clnp_options.specs.SourceRoute.{SourceRoute}
 use Rattle.clnp_options.specs.declared.reason.PduKind.{PduKind}
 use Rattle.clnp_options.specs.declared.reason.PduKind.TheVariants.{Dt, Er}
 use Rattle.clnp_options.specs.declared.reason.Reason.{Reason}
-use Rattle.clnp_options.specs.declared.reason.Reason.TheVariants.{Congestion, DestinationUnknown, DestinationUnreachable, LifetimeExpiredInTransit, ReassemblyInterference}
+use Rattle.clnp_options.specs.declared.reason.Reason.TheVariants.{Congestion, DestinationUnreachable, LifetimeExpiredInTransit, ReassemblyInterference}
 use Rattle.clnp_header.specs.declared.pdu.Pdu.{Pdu}
-use Rattle.clnp_header.specs.declared.pdu.SegmentPart.{SegmentPart}
 use Rattle.clnp_header.proofs.Answered.{apart, one_front}
 use Rattle.clnp_segment.specs.Joining.{Held}
 use Rattle.clnp_segment.specs.Store.{At, Coming, Holding, Key, Partial, Takes as TakesSegment, TakesAt, partial_with}
@@ -26,7 +25,8 @@ use Rattle.clnp_system.specs.Receiving.{Alien, BadHello, Does, Elsewhere, Faulty
 use Rattle.clnp_system.specs.Reporting.{Discards, discarded_pdu, is_data}
 use Rattle.clnp_system.specs.Setting.{Setting, bound_of, is_group}
 use Rattle.clnp_system.specs.Tables.{rows_tables}
-use Rattle.clnp_system.specs.Verdicts.{for_this, verdict, whole_or_part}
+use Rattle.clnp_system.specs.Verdicts.{for_this, verdict}
+use Rattle.clnp_system.proofs.Outgoing.{this_not_onward}
 use Rattle.law_clnp_net.proofs.once.Receivings.{hello_first, pdu_first}
 use Rattle.law_clnp_step.proofs.Lists.{all_back, all_both, all_front}
 use Rattle.law_clnp_step.specs.Sound.{IsAmong}
@@ -41,21 +41,9 @@ data_kind : (kind : PduKind) (report single : Bool) → (is_data kind && report 
 data_kind Dt report single h = refl
 data_kind Er report single h = absurd cc
 
-part_no_hop : (part : Option SegmentPart) (way : Hop) → whole_or_part part ≡ Onward way → ⊥
-part_no_hop None way e = absurd cc
-part_no_hop (Some part) way e = absurd cc
-
-known_no_hop : (unknown : Bool) (part : Option SegmentPart) (way : Hop) → (if unknown then Discard DestinationUnknown 0 else whole_or_part part) ≡ Onward way → ⊥
-known_no_hop true part way e = absurd cc
-known_no_hop false part way e = part_no_hop part way e
-
-this_no_hop : (setting : Setting) (pdu : Pdu) (kind : PduKind) (way : Hop) → for_this setting pdu kind ≡ Onward way → ⊥
-this_no_hop setting pdu Er way e = absurd cc
-this_no_hop setting pdu Dt way e = known_no_hop _ pdu.segment way e
-
 low_no_hop : (low : Bool) (setting : Setting) (pdu : Pdu) (way : Hop) → (if low then Discard LifetimeExpiredInTransit 4 else for_this setting pdu pdu.kind) ≡ Onward way → ⊥
 low_no_hop true setting pdu way e = absurd cc
-low_no_hop false setting pdu way e = this_no_hop setting pdu pdu.kind way e
+low_no_hop false setting pdu way e = this_not_onward setting pdu pdu.kind way e
 
 -- no PDU goes onward
 end_no_hop : (own low end : Bool) (setting : Setting) (pdu : Pdu) (rest : Verdict) (way : Hop) → end ≡ true
@@ -146,10 +134,6 @@ takes_of_users titles store now come answer after all user t =
 
 no_octet : (octet : ℕ) → octet ≡ 0x81 → octet ≡ 0x82 → ⊥
 no_octet octet a b = omega (arith, a, b)
-
-always : {A : Type 0} (xs : List A) → AllByRecursion (λ x. Prim.Unit {0}) xs
-always [] = tt
-always (x ∷ xs) = (tt, always xs)
 
 module _ (rows : List PortRow) (first second : Setting) (here there : Port) (calm : IsCalmNet rows first second here there) where
   abbrev titles : List (List ℕ)

@@ -4,6 +4,7 @@ use Rattle.std.proofs.lemmas.List.{append-nil}
 use Rattle.std.specs.List.{AllByRecursion}
 use Rattle.nsap.specs.declared.port.Port.{Port}
 use Rattle.osi_base.specs.declared.unit.Unit.{Unit as CarriedUnit}
+use Rattle.osi_base.proofs.Members.{all_both}
 use Rattle.lan_step.specs.Bag.{Bag}
 use Rattle.lan_step.specs.declared.row.PortRow.{PortRow}
 use Rattle.clnp_segment.specs.Store.{Key, Partial}
@@ -16,7 +17,7 @@ use Rattle.law_clnp_net.proofs.Addresses.{turned}
 use Rattle.law_clnp_net.proofs.Both.{group_goes_nowhere}
 use Rattle.law_clnp_net.proofs.Ports.{goes_to_second}
 use Rattle.law_clnp_net.proofs.Sent.{port_is}
-use Rattle.law_clnp_net.proofs.Spent.{all_more, spent_at_once}
+use Rattle.law_clnp_net.proofs.Spent.{spent_at_once}
 use Rattle.law_clnp_net.specs.Joining.{HasNone}
 use Rattle.law_clnp_net.specs.Waiting.{AreLeft, AreOf, Carrying, GoesAcross, GoesIn, Greets, Idle, IsIdle, IsReport, NoneLeft, Part, ReportsToFirst, ReportsToSecond, ToFirst, ToSecond}
 
@@ -120,7 +121,7 @@ module _ (rows : List PortRow) (first second : Setting) (here there : Port) (cal
     spent = waits.spent ++ sent_at bag.clock frame ∷ [];
     stands = waits.stands ∙ sym (append_assoc waits.spent (sent_at bag.clock frame ∷ []) (map (sent_at bag.clock) frames));
     are_spent =
-        all_more (IsSpent bag.clock bag.lans bag.rows) waits.spent (sent_at bag.clock frame ∷ []) waits.are_spent
+        all_both (IsSpent bag.clock bag.lans bag.rows) waits.spent (sent_at bag.clock frame ∷ []) waits.are_spent
         (spent_at_once bag.clock bag.lans bag.rows frame (subst (λ (rs : List PortRow). GoesNowhere rs frame) (sym ports) nowhere), tt);
     quiet = waits.quiet;
   }

@@ -1,6 +1,6 @@
 -- Where no pair is fresh, each frame that is still there was taken by all that can take it.
-use Rattle.std.proofs.Common.{◌≡◌, ℕ, zero, suc, Bool, true, false, not, ◌&&◌, ◌||◌, if◌then◌else◌, List, [], ◌∷◌, refl, sym, ◌∙◌, ap, Option, Some, None, slice_get}
-use Rattle.std.specs.List.{AllByRecursion, list_any}
+use Rattle.std.proofs.Common.{◌≡◌, ℕ, zero, suc, Bool, true, false, not, ◌&&◌, if◌then◌else◌, List, [], ◌∷◌, refl, sym, ◌∙◌, ap, Option, Some, None, slice_get}
+use Rattle.std.specs.List.{AllByRecursion}
 use Rattle.std.proofs.lemmas.List.{append-nil}
 use Rattle.osi_base.specs.declared.unit.Picked.{Picked}
 use Rattle.osi_base.specs.declared.unit.Picked.TheVariants.{Late}
@@ -12,10 +12,7 @@ use Rattle.lan_step.specs.Frames.{Frame, has_taken, is_live, is_taken, kept, pic
 use Rattle.lan_bag.specs.steps.Openings.{is_open_to}
 use Rattle.lan_step.proofs.Places.{takes_at, takes_in}
 use Rattle.law_clnp_net.specs.Frames.{HasWaiting, IsSpent}
-
-any_never : {X : Type 0} (test : X → Bool) → ((x : X) → test x ≡ false) → (xs : List X) → list_any test xs ≡ false
-any_never test never [] = refl
-any_never test never (x ∷ xs) = ap (λ (b : Bool). b || list_any test xs) (never x) ∙ any_never test never xs
+use Rattle.law_clnp_net.proofs.Spent.{any_never}
 
 by_live : (live has : Bool) (picked : Picked) → (is_taken (if not live then Late else picked) && not has) ≡ false → (live && is_taken picked && not has) ≡ false
 by_live true has picked h = h

@@ -1,18 +1,12 @@
 -- Lists of octets, put together and taken apart.
-use Rattle.std.proofs.Common.{◌≡◌, ℕ, zero, suc, ◌<◌, List, [], ◌∷◌, ◌++◌, length, take, drop, Option, Some, None, refl, arith, All}
+use Rattle.std.proofs.Common.{◌≡◌, ℕ, zero, suc, ◌<◌, List, [], ◌∷◌, ◌++◌, length, take, drop, Option, Some, None, refl, arith}
 use Rattle.std.specs.Prelude.{IsSome}
-use Rattle.std.specs.List.{AllByRecursion}
-use Rattle.std.proofs.lemmas.List.Elements.{All-cons, All-nil}
 use Rattle.pdu_parts.specs.Field.{field}
 use Rattle.pdu_parts.specs.Number.{two_octets}
 use Rattle.law_carrier_answers.specs.Answers.{AreOctets}
 use Rattle.law_clnp_step.proofs.Lists.{all_back, all_both, all_front}
 
 -- ---- what holds of all members of a list
-
-pub all_of : {A : Type 0} (P : A → Type 0) (xs : List A) → AllByRecursion P xs → All P xs
-all_of P [] h = All-nil P
-all_of P (x ∷ xs) h = All-cons P x xs h.0 (all_of P xs h.1)
 
 pub some_of : {A : Type 0} (found : Option A) → IsSome found → (x : A) × (found ≡ Some x)
 some_of None e = absurd cc

@@ -1,7 +1,7 @@
 -- Data can be cut for a room: as long as what remains does not fit, the most octets that do, in eights. So a PDU that may be written goes
 -- out in frames, or does not fit and may not be cut.
 use Rattle.std.proofs.Common.{◌≡◌, ◌⊎◌, ℕ, zero, suc, ◌+◌, ◌*◌, ◌-◌, ◌/◌, ◌<◌, ◌≤◌, Bool, true, false, List, [], ◌∷◌, ◌++◌, length, take, drop, Option, Some, None, refl, sym, subst, arith, inl, inr}
-use Rattle.std.specs.Prelude.{IfSome, IsSome, cond, find, ◌==◌}
+use Rattle.std.specs.Prelude.{IfSome, IsSome, ◌==◌}
 use Rattle.std.specs.List.{AllByRecursion}
 use Rattle.std.proofs.lemmas.Bool.{cases_lt}
 use Rattle.std.proofs.lemmas.List.{length-drop, length-take-le, take-append-drop}
@@ -16,6 +16,7 @@ use Rattle.clnp_system.specs.Node.{Frame}
 use Rattle.clnp_system.specs.Setting.{HasLan, Setting, port_on, room_of}
 use Rattle.clnp_system.specs.Written.{AreFrames, CutFrames, IsHelloFrame, IsPduFrame, MayBeWritten}
 use Rattle.clnp_system.proofs.Lans.{lan_of}
+use Rattle.clnp_system.proofs.Hops.{found as found_all}
 use Rattle.esis_pdu.specs.declared.hello.Hello.{Hello}
 use Rattle.law_clnp_net.specs.Standing.{IsFrame, IsSetUp, IsSnpa}
 use Rattle.law_clnp_net.proofs.written.Fitting.{FitsOctets, FitsPart}
@@ -81,14 +82,6 @@ all_fit pdu part position room header octets (piece ∷ next ∷ pieces) h p fit
     )
 
 -- ---- frames
-found_all : {A : Type 0} (P : A → Type 0) (test : A → Bool) (xs : List A) → AllByRecursion P xs → IfSome (find test xs) P
-found_all P test [] all = tt
-found_all P test (x ∷ xs) all = by (test x) (found_all P test xs all.1)
-  where
-    by : (b : Bool) → IfSome (find test xs) P → IfSome (cond b (Some x) (find test xs)) P
-    by true rest = all.0
-    by false rest = rest
-
 some_is : {A : Type 0} (P : A → Type 0) (found : Option A) (x : A) → found ≡ Some x → IfSome found P → P x
 some_is P None x e h = absurd cc
 some_is P (Some y) x e h = let same : y ≡ x = cc in subst P same h

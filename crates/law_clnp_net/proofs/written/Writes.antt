@@ -1,5 +1,5 @@
 -- What may be written can be: a PDU in its frame, and a hello in its frame, in octets.
-use Rattle.std.proofs.Common.{ℕ, ◌<◌, ◌≤◌, Bool, true, false, List, [], ◌∷◌, ◌++◌, length, Option, Some, None, refl, arith, length-append}
+use Rattle.std.proofs.Common.{ℕ, ◌<◌, ◌≤◌, Bool, true, false, List, [], ◌∷◌, ◌++◌, length, Option, Some, None, refl, arith}
 use Rattle.std.specs.Prelude.{IfSome, IsSome}
 use Rattle.std.specs.List.{AllByRecursion, flat_map}
 use Rattle.nsap.specs.declared.port.Port.{Port}
@@ -22,6 +22,7 @@ use Rattle.esis_pdu.specs.declared.hello.Hello.TheVariants.{Esh, Ish, Rd}
 use Rattle.esis_pdu.specs.Hellos.{IsAddressed, hold_of, parts, size_of, title_field, type_of}
 use Rattle.esis_pdu.specs.steps.Writing.{draft_part}
 use Rattle.esis_pdu.proofs.Drafts.{sealed_is_written, written_is_pdu}
+use Rattle.esis_pdu.proofs.Lengths.{count_within}
 use Rattle.clnp_system.specs.Node.{Frame}
 use Rattle.clnp_system.specs.Setting.{Setting, port_on}
 use Rattle.clnp_system.specs.Written.{IsHelloFrame, IsPduFrame, MayBeWritten}
@@ -116,12 +117,8 @@ addressed (Esh hold addresses) h = all_addresses addresses h
 addressed (Ish hold title) h = h.is
 addressed (Rd hold address snpa title) h = (h.0.is, h.1.six, title_address title h.2)
 
-count_most : (addresses : List (List ℕ)) → length addresses ≤ length (flat_map field addresses)
-count_most [] = omega arith
-count_most (address ∷ addresses) = omega (arith, count_most addresses, length-append (field address) (flat_map field addresses))
-
 parts_octets : (hello : Hello) → FitsHello hello → size_of hello ≤ 254 → AreOctets (parts hello)
-parts_octets (Esh hold addresses) h size = (omega (arith, size, count_most addresses), titles_octets addresses h)
+parts_octets (Esh hold addresses) h size = (omega (arith, size, count_within addresses), titles_octets addresses h)
 parts_octets (Ish hold title) h size = address_octets title h
 parts_octets (Rd hold address snpa title) h size =
     octets_both (field address ++ field snpa) (title_field title) (octets_both (field address) (field snpa) (address_octets address h.0) (octets_field snpa (omega (arith, h.1.six)) h.1.octets))

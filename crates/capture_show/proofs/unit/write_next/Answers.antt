@@ -10,19 +10,19 @@ pub parameters_of-parameters-requires-clause-least : goal.parameters_of-paramete
 parameters_of-parameters-requires-clause-least c =
     let extended = references_of c.args.pdu.now.destination c.args.ends.now in
     let begins = c.in-Ok.ensures.ok extended (sym c.format_of-format.ensures) in
-    (are_there extended c.args.octets.now (seen c.in-Ok.tpdu) c.in-Ok.rest.now c.kind_of.result c.format_of-format.result begins c.kind_of.ensures (sym c.format_of-format.ensures)).least
+    (are_there extended c.args.octets.now (seen c.in-Ok.tpdu) c.in-Ok.rest.now c.kind.result c.format_of-format.result begins c.kind.ensures (sym c.format_of-format.ensures)).least
 
 pub parameters_of-parameters-requires-clause-most : goal.parameters_of-parameters-requires-clause-most
 parameters_of-parameters-requires-clause-most c =
     let extended = references_of c.args.pdu.now.destination c.args.ends.now in
     let begins = c.in-Ok.ensures.ok extended (sym c.format_of-format.ensures) in
-    (are_there extended c.args.octets.now (seen c.in-Ok.tpdu) c.in-Ok.rest.now c.kind_of.result c.format_of-format.result begins c.kind_of.ensures (sym c.format_of-format.ensures)).most
+    (are_there extended c.args.octets.now (seen c.in-Ok.tpdu) c.in-Ok.rest.now c.kind.result c.format_of-format.result begins c.kind.ensures (sym c.format_of-format.ensures)).most
 
 pub returns-in_ok-learn-in-Ok-clause-writes : goal.returns-in_ok-learn-in-Ok-clause-writes
 returns-in_ok-learn-in-Ok-clause-writes c =
     let extended = references_of c.args.pdu.now.destination c.args.ends.now in
     let begins = c.in-Ok.ensures.ok extended (sym c.format_of-format.ensures) in
-    let there = are_there extended c.args.octets.now (seen c.in-Ok.tpdu) c.in-Ok.rest.now c.kind_of.result c.format_of-format.result begins c.kind_of.ensures (sym c.format_of-format.ensures) in
+    let there = are_there extended c.args.octets.now (seen c.in-Ok.tpdu) c.in-Ok.rest.now c.kind.result c.format_of-format.result begins c.kind.ensures (sym c.format_of-format.ensures) in
     record {
       line = tpdu_line (tpdu_of c.in-Ok.tpdu) (parameters_in c.parameters_of-parameters.result.now);
       shows = record {

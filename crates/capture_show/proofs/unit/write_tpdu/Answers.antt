@@ -15,6 +15,6 @@ returns c =
     let ps = parameters_in c.args.parameters.now in
     let old = c.args.out.now.items in
     appended c.push_end.result c.push_end.new.out.items _ _
-    (ended (codes " tpdu" ∷ fixed_texts tpdu) (parameters_text (known c.kind_of.result ps)) (decimal c.count_of.result) old c.push_fixed.new.out.items c.push_known.new.out.items
+    (ended (codes " tpdu" ∷ fixed_texts tpdu) (parameters_text (known c.kind.result ps)) (decimal c.count_of.result) old c.push_fixed.new.out.items c.push_known.new.out.items
     c.push_end.new.out.items c.push_end.result c.in_ok-push_fixed.ensures c.in_ok-push_known.ensures c.push_end.ensures)
-    (λ i. old ++ line (codes " tpdu" ∷ (fixed_texts tpdu ++ parameters_text (known (c.kind_of.ensures i) ps) ∷ decimal (c.count_of.ensures i) ∷ [])))
+    (λ i. old ++ line (codes " tpdu" ∷ (fixed_texts tpdu ++ parameters_text (known (c.kind.ensures i) ps) ∷ decimal (c.count_of.ensures i) ∷ [])))
