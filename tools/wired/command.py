@@ -1,7 +1,7 @@
 """A tool's words, its faults, and the program that it takes.
 
-The launcher names itself in OSI, the program in OSI_PROGRAM, and says by OSI_BUILT (yes, no) whether that one is proved and built from
-these sources. A tool that is called by its own path is called again through the launcher.
+The launcher names itself in OSI, the program in OSI_PROGRAM, and says by OSI_BUILT (yes, no) whether a tool may take that one: it is proved from these
+sources, or the caller knows that it is not. OSI_SAYS has the reason of a no. A tool that is called by its own path is called again through the launcher.
 """
 import argparse
 import os
@@ -45,7 +45,7 @@ def say(text):
 def program():
     """The path of the program. Fault: it is not built."""
     if os.environ.get("OSI_BUILT") != "yes":
-        raise Fault(NO_BUILD, "it takes the proved program, which is not built: ./osi-build builds it")
+        raise Fault(NO_BUILD, os.environ.get("OSI_SAYS") or "it takes the proved program, which is not built: ./osi-build builds it")
     return os.environ["OSI_PROGRAM"]
 
 
