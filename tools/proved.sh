@@ -86,7 +86,7 @@ compare_program() {
 
 compare() {
     compare_program
-    [ "$proof" != proved ] || is_same "$(sum_sources "$top")" "$(recorded sources)" || proof=changed
+    [ "$proof" != proved ] || is_same "$(sum_sources "$top" 2>/dev/null)" "$(recorded sources)" || proof=changed
 }
 
 # The program and the record, each with its size, its time of change and its number; and each source that changed after a file.

@@ -24,7 +24,7 @@ mod world;
 
 use journal::{Journal, Mode};
 use script::{Command, Fault};
-use std::io::{self, BufRead, Read, Write};
+use std::io::{self, BufRead, BufReader, Read, Write};
 use std::process::ExitCode;
 use world::World;
 
@@ -81,7 +81,7 @@ fn number(text: &str, most: u32) -> Option<u32> {
 fn run(command: Command, mode: Mode) -> io::Result<u8> {
     let mut journal = Journal::new(mode)?;
     let mut world = World::new(command);
-    let mut input = io::stdin().lock();
+    let mut input = BufReader::with_capacity(1 << 16, io::stdin().lock());
     let end = match run_lines(&mut input, &mut world, &mut journal) {
         Ok(end) => end,
         Err(Failure::Read) => {
@@ -134,11 +134,15 @@ impl From<io::Error> for Failure {
     }
 }
 
-fn run_lines(input: &mut impl BufRead, world: &mut World, journal: &mut Journal) -> Result<End, Failure> {
+fn run_lines(input: &mut BufReader<impl Read>, world: &mut World, journal: &mut Journal) -> Result<End, Failure> {
     let mut line = Vec::new();
     let mut octets = 0;
     let mut lines = 0;
     loop {
+        // (who writes the script may wait for what came of the lines before)
+        if input.buffer().is_empty() {
+            journal.out.flush()?;
+        }
         line.clear();
         let room = MOST_OCTETS - octets;
         let count = input.by_ref().take(room as u64 + 1).read_until(b'\n', &mut line).map_err(|_| Failure::Read)?;
