@@ -93,6 +93,16 @@ program() {
     [ "$OSI_BUILT" = yes ] || look_again
 }
 
+# Writes the octets of a file in hexadecimal, some a line. GNU `od` takes a fifth of the time where it writes eight octets as one number, highest
+# first; behind the last octet there may be zeros.
+hexadecimal() {
+    if od -An -v --endian=big -tx8 </dev/null >/dev/null 2>&1; then
+        od -An -v --endian=big -tx8 <"$1"
+    else
+        od -An -v -tx1 <"$1"
+    fi
+}
+
 # Writes what a tool made, in $work/out: a write that fails has the status 4 of the program, and silence where the reader has gone.
 hand_over() {
     cat "$work/out" 2>"$work/failure"

@@ -9,7 +9,7 @@ _osi() {
         mapfile -t COMPREPLY < <(compgen -W 'two-lans two-routers relay datagrams' -- "$2")
     elif [[ $2 == -* ]]; then
         case ${COMP_WORDS[1]} in
-        ladder) words='--svg --help' ;;
+        ladder) words='--svg --ticks --of --help' ;;
         sweep) words='--csv --svg --on --help' ;;
         type) words='--from --step --help' ;;
         live) words='--tick --log --stay --skew --help' ;;
