@@ -26,15 +26,16 @@ function used_kind(n,   letters) {
     }
     return kind_of[letters]
 }
-# The name of an arrow, along it and above it, at its head.
-function svg_name(x, y, to_x, to_y, what,   across, down) {
+# An arrow, and its name along it and above it, at its head. (one `printf` each: these are most of a long picture)
+function put_arrow(x, from_y, to_x, to_y, class, what,   across, down) {
     across = to_x - x
-    down = to_y - y
+    down = to_y - from_y
     if (!((across, down) in turned)) {
-        turned[across, down] = sprintf("rotate(%.1f)' x='%d' y='-4' text-anchor='%s'>", atan2(across < 0 ? -down : down, across < 0 ? -across : across) * 180 / 3.14159265,
+        turned[across, down] = sprintf("rotate(%.1f)' x='%d' y='-4' text-anchor='%s'", atan2(across < 0 ? -down : down, across < 0 ? -across : across) * 180 / 3.14159265,
             across < 0 ? 14 : -14, across < 0 ? "start" : "end")
     }
-    return "<text transform='translate(" to_x " " to_y ") " turned[across, down] escaped(what) "</text>"
+    printf "<line x1='%d' y1='%d' x2='%d' y2='%d' class='%s'/>\n", x, from_y, to_x, to_y, class >lines
+    printf "<text transform='translate(%d %d) %s>%s</text>\n", to_x, to_y, turned[across, down], escaped(what) >texts
 }
 function draw_tick() {
     y += 14
@@ -68,9 +69,8 @@ function draw_arrow(n, to, what, mark,   x, to_x, from_y) {
     x = x_of(starts[n])
     to_x = x_of(to)
     from_y = (n in sent_at) ? sent_at[n] : 40
-    put_line(svg_line(x, from_y, to_x, y, (mark == ">" ? "taken " : "lost ") used_kind(n)))
+    put_arrow(x, from_y, to_x, y, (mark == ">" ? "taken " : "lost ") used_kind(n), what)
     if (mark != ">") put_line(svg_cross(to_x, y))
-    put(svg_name(x, from_y, to_x, y, what))
 }
 function draw_end(   i, x) {
     y += 30

@@ -84,9 +84,11 @@ part == "decode" && $1 == "tpdu" {
 part == "decode" {
     if ($1 !~ /^[0-9]+$/) next
     record = $1
-    piece = 0
-    if ($9 != "-" && split($10, part_of, "/") == 3) piece = $9 ~ /m/ || part_of[2] > 0
-    carried[record] = $5 (piece ? " +" part_of[2] : "")
+    # (the first piece has the offset 0)
+    if ($5 == "dt" && $10 != "-" && (index($9, "m") || !index($10, "/0/"))) {
+        split($10, part_of, "/")
+        carried[record] = $5 " +" part_of[2]
+    } else carried[record] = $5
     if (of != "" && $5 == "dt") way_of[record] = system_shown($7) " " system_shown($6)
     next
 }
@@ -116,11 +118,11 @@ $1 == "frame" {
     sent[$2] = clock
     if (of != "" && concerns($2)) is_ours[$2]
     if (!has_frame($2)) next
-    # (where it goes, for one that nobody takes: a group is on all sides)
-    goes = ($5 in system_at) ? column[system_at[$5]] : starts[$2] < columns - 1 ? columns - 1 : 0
     draw_frame($2)
-    if (!($2 in arrives)) draw_lost($2, goes, "X")
-    else if (to != "" && arrives[$2] > to + 0) draw_lost($2, goes, arrives[$2])
+    if (($2 in arrives) && (to == "" || arrives[$2] <= to + 0)) next
+    # (where it goes: a group is on all sides)
+    goes = ($5 in system_at) ? column[system_at[$5]] : starts[$2] < columns - 1 ? columns - 1 : 0
+    draw_lost($2, goes, ($2 in arrives) ? arrives[$2] : "X")
     next
 }
 $1 == "tick" {
