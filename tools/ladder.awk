@@ -13,11 +13,16 @@ function system_shown(address) {
     gsub(/\./, "", address)
     return system_at[substr(address, 1, length(address) - 2)]
 }
+# One copy of a text, which many frames have.
+function shared(text) {
+    if (!(text in copy)) copy[text] = text
+    return copy[text]
+}
 # The references of a TPDU: of its destination and of its source, 0 for one that it has not.
 function refer(what,   to_ref, from_ref) {
     to_ref = what == "cr" ? 0 : $3
     from_ref = what == "cc" ? $5 : what ~ /^(cr|dr|dc)$/ ? $4 : 0
-    refers[record] = refers[record] " " to_ref "/" from_ref
+    refers[record] = shared(refers[record] " " to_ref "/" from_ref)
 }
 # Whether a frame is one between the end of `of` and its partner.
 function concerns(n,   list, way, count, ref, i, e) {
@@ -89,7 +94,7 @@ part == "decode" {
         split($10, part_of, "/")
         carried[record] = $5 " +" part_of[2]
     } else carried[record] = $5
-    if (of != "" && $5 == "dt") way_of[record] = system_shown($7) " " system_shown($6)
+    if (of != "" && $5 == "dt") way_of[record] = shared(system_shown($7) " " system_shown($6))
     next
 }
 part == "ahead" {
