@@ -6,7 +6,11 @@ BEGIN {
     limit["t1"] = 8
     limit["w"] = 20
 }
-function set_up_title(name, title) { system_at[tolower(substr(title, 1, length(title) - 2)) "01"] = name }
+function set_up_title(name, title) {
+    system_at[tolower(substr(title, 1, length(title) - 2)) "01"] = name
+    title_of[name] = tolower(title)
+}
+function frozen_ticks() { return 2 * limit["life"] + limit["i"] + limit["n"] * limit["t1"] }
 # Of ends: their name, their partner, the lines that made, indicated and accepted them, and the first frame of each of these.
 function remember_event(number, w,   caller) {
     if (w[1] == "connect") {
@@ -15,10 +19,12 @@ function remember_event(number, w,   caller) {
         caller_at[w[5] " " w[4]] = w[2]
         called_system[w[2]] = system_at[w[7]]
         asked_at[w[2]] = number
+        request_of[w[2]] = w[5] " " w[4]
     } else if (w[1] == "incoming") {
         ends = w[2]
         system_of_end[w[2]] = w[3]
         indicated_at[w[2]] = number
+        indicated[w[5] " " w[6] " " w[3]] = w[2]
         if ((w[5] " " w[6]) in caller_at) {
             caller = caller_at[w[5] " " w[6]]
             partner_of[w[2]] = caller
@@ -44,7 +50,7 @@ function awaits(event, end, pdu, name,   n) {
 function unheard(   e) {
     for (e = ends; e; e--) if (e in asked_at && !(e in partner_of)) return e
 }
-function is_silent(name) { return name in began_at && clock + 0 <= began_at[name] + 2 * limit["life"] + limit["i"] + limit["n"] * limit["t1"] }
+function is_silent(name) { return name in began_at && clock + 0 <= began_at[name] + frozen_ticks() }
 function began(name) {
     return name " began again at tick " began_at[name] " (line " began_line[name] ")"
 }
@@ -57,7 +63,14 @@ function longest_outage(   tries, idle, least) {
     return "an outage of at most " least (least == 1 ? " tick" : " ticks") " ends no connection that is open before it: by the times of the script the lesser of (N - 1) T1 - 1 = " \
         tries " and I - 2W = " idle
 }
-function before(text, w,   e, p) {
+# What the refusal 131 of a request means where an end of before the caller's restart has the same reference.
+function refused_131(e,   old, name) {
+    name = system_of_end[e]
+    old = indicated[request_of[e] " " called_system[e]]
+    if (!old || !(name in began_at) || asked_at[e] < began_line[name] || indicated_at[old] > began_line[name]) return ""
+    return began(name) ", and gave the reference of before again; " called_system[e] " still has it frozen, by its end " old ". No refusal was lost: connect again, and the next request has another reference"
+}
+function before(text, w,   e, p, way) {
     e = $2
     p = partner_of[e]
     if (text == "no nosuchend" && e == ends + 1) {
@@ -74,11 +87,17 @@ function before(text, w,   e, p) {
         return "`accept " p "` stands at line " answered_at[p] ": " awaits("accept", p, "CC", system_of_end[e])
     }
     if (text == "no wrongstate ended" && system_of_end[e] in began_at) return began(system_of_end[e]) ", and lost its ends"
+    if (w[1] == "gone" && w[3] == "131") return refused_131(w[2])
     if (w[1] == "gone" && w[3] ~ /^(exhausted|inactive|132)$/) {
         p = (w[2] in called_system) ? called_system[w[2]] : system_of_end[partner_of[w[2]]]
-        if (is_silent(p)) return began(p) ": it lost its ends, and is silent up to tick " \
-            began_at[p] + 2 * limit["life"] + limit["i"] + limit["n"] * limit["t1"] ", so nothing answers; connect again after that tick"
+        if (is_silent(p)) return began(p) ": it lost its ends, and is silent up to tick " began_at[p] + frozen_ticks() ", so nothing answers; connect again after that tick" \
+            ((w[2] in called_system) ? "" : ". A `connect` may get 131 then, once for each old reference that " system_of_end[w[2]] " has frozen; the next one has another")
         if (w[3] == "exhausted" && system_of_end[w[2]] in dropped_at) return "the TPDU was too long for the network each time: `drop " system_of_end[w[2]] " toolong` at line " dropped_at[system_of_end[w[2]]]
+        if (w[3] != "132" && p != "") {
+            way = way_blocked(system_of_end[w[2]], p)
+            if (way == "") way = way_blocked(p, system_of_end[w[2]])
+            if (way != "") return way
+        }
         if (w[3] != "132" && (w[2] in is_confirmed || partner_of[w[2]] in is_confirmed)) return longest_outage()
     }
     return ""

@@ -17,7 +17,7 @@ function line(number, text) {
     split(text, word, " ")
     if (word[1] == "es" || word[1] == "is") { kind[word[2]] = toupper(word[1]); set_up_title(word[2], word[3]) }
     if (word[1] == "set" && word[2] in limit) limit[word[2]] = word[3]
-    if (word[1] == "route") routed[word[2]]
+    if (word[1] == "route" || word[1] == "#") way_line(number, text)
     remember(number, text)
 }
 # Whether a line of the transcript is as a pattern says.

@@ -1,5 +1,5 @@
 # Looks at the comments that losses read, and writes the first fault: LINE COLUMN CAUSE, and what it wants. Of the script it believes the rest:
-# the program has run it.
+# the program has run it. distance.awk and comments.awk stand beside.
 function fault(column, cause, wants) {
     print FNR, column, cause, wants
     failed = 1
@@ -32,6 +32,7 @@ function waits() {
     when = 0
 }
 { sub(/\r$/, "") }
+/^#[A-Za-z=]/ { if ((wants = unknown_comment($0)) != "") fault(1, "word", wants) }
 $1 == "lan" { lans[$2] }
 $1 == "es" || $1 == "is" { systems[$2] }
 $0 == "start" { started = 1 }

@@ -10,9 +10,24 @@ takes_program() {
 
 # The first fault in the comments that losses read, if any, as FILE:LINE:COLUMN: CAUSE: what it wants.
 comments_fault() {
-    awk -f "$tools/lossy-comments.awk" "$work/script" >"$work/fault" && return 1
+    awk -f "$tools/distance.awk" -f "$tools/comments.awk" -f "$tools/lossy-comments.awk" "$work/script" >"$work/fault" && return 1
     read -r line column cause wants <"$work/fault"
     echo "$1:$line:$column: $cause: $wants"
+}
+
+# Whether losses have a place in the script: a `settle` below `start` and `#losses`, and above `#calm`.
+has_place() {
+    awk '
+        { sub(/\r$/, "") }
+        $0 == "#losses" { has = 0 }
+        $0 == "#calm" { exit }
+        $0 == "settle" { has = 1 }
+        END { exit !has }' "$work/script"
+}
+
+# A warning and no refusal: the script with losses is right as it is written, but LOSS and REPEAT do nothing to it.
+tell_no_place() {
+    say "nothing is lost or repeated by chance in $1: it has no \`settle\` for losses to replace (below \`start\` and \`#losses\`, above \`#calm\`); lines \`deliver\` are kept"
 }
 
 # mawk reads a pipe line by line only where it is told to.

@@ -1,22 +1,6 @@
 # What `explain` tells of a refused line: the line, a caret under the place, what the field wants, and what is near.
 function remember(number, text) { above[number] = text }
 function note(text) { print "    do: " text }
-# How many letters must change to make one word of the other.
-function distance(one, other,   i, j, row, old, new) {
-    for (j = 0; j <= length(other); j++) row[j] = j
-    for (i = 1; i <= length(one); i++) {
-        old = row[0]
-        row[0] = i
-        for (j = 1; j <= length(other); j++) {
-            new = old + (substr(one, i, 1) != substr(other, j, 1))
-            if (row[j] + 1 < new) new = row[j] + 1
-            if (row[j - 1] + 1 < new) new = row[j - 1] + 1
-            old = row[j]
-            row[j] = new
-        }
-    }
-    return row[length(other)]
-}
 # The names that lines above declare, of LANs, paths or systems.
 function declared(words,   i, list, w) {
     for (i = 1; i in above; i++) if (split(above[i], w, " ") > 1 && w[1] ~ ("^(" words ")$") && i < refused_at) list = list " " w[2]

@@ -51,7 +51,7 @@ END {
         y = y_of(sum / submitted[rate[r]]) + 4
         for (k = 1; k < r; k++) for (j = 1; j < r; j++) if (y < name_at[j] + 13 && y > name_at[j] - 13) y = name_at[j] + 13
         name_at[r] = y
-        print text(60 + width + 6, sprintf("%.1f", y), "start", "loss " rate[r] " %")
+        print text(60 + width + 6, sprintf("%.1f", y), "start", place == "no" ? "no losses" : "loss " rate[r] " %")
         print line(60 + width + 76, sprintf("%.1f", y - 4), 60 + width + 112, sprintf("%.1f", y - 4), "curve' stroke='" colour[1 + (r - 1) % 8] "' stroke-dasharray='" dash[1 + (r - 1) % 8])
     }
     print "</svg>"

@@ -14,7 +14,7 @@ function share(percent,   wanted, sum, d) {
     return d
 }
 function write(   cause, list, n, i, j, name) {
-    printf "%4d %%%6d%11d%7d%8s%8s%6s%6s%6s%8s%6d%6d%7d\n", loss, runs, submitted, shown, share(0), share(50), share(90), share(99), share(100),
+    printf "%6s%6d%11d%7d%8s%8s%6s%6s%6s%8s%6d%6d%7d\n", place == "no" ? "none" : loss " %", runs, submitted, shown, share(0), share(50), share(90), share(99), share(100),
         shown ? sprintf("%.1f", frames / shown) : "-", gone, refusals, never
     for (cause in causes) name[++n] = cause
     for (i = 2; i <= n; i++) {
@@ -32,7 +32,7 @@ function end_run() {
     is_odd = 0
 }
 BEGIN {
-    print ENVIRON["name"] ", seeds " seeds ", repeat " repeat " %"
+    print ENVIRON["name"] ", seeds " seeds ", repeat " (place == "no" ? "none" : repeat " %")
     print "                   units           delay of a unit, ticks          frames  ends  lines"
     print "  loss  runs  submitted  shown   least  median  90 %  99 %  most  a unit  gone    no  never"
     clear()
