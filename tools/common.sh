@@ -19,6 +19,17 @@ wrong() {
     exit 2
 }
 
+# The options of the tool beside --help; a tool that has some names them above its words.
+options=
+
+# A word that begins with `-` and stands where no option is read.
+no_option() {
+    for option in $options; do
+        [ "$option" != "$1" ] || wrong "the option $1 stands in front of the other words"
+    done
+    wrong "there is no option $1: there is ${options:+$options and }--help"
+}
+
 # Asks for as many words as are given first; without any the help is written.
 words() {
     case ${2-} in
@@ -31,6 +42,11 @@ words() {
         help >&2
         exit 2
     fi
+    for word; do
+        case $word in
+        -?*) no_option "$word" ;;
+        esac
+    done
     [ $# -gt "$1" ] || wrong "a word is missing"
     [ $# = $(($1 + 1)) ] || wrong "there are words too many"
 }
@@ -43,10 +59,54 @@ take() {
     cat -- "$1" >"$work/$2" || exit 3
 }
 
+# The first line of a transcript.
+transcript_begins='^(tick 0|done|refused [0-9]+ [0-9]+ [a-z]+|toomuch)$'
+
 # Looks whether $work/transcript begins as a transcript does.
 is_transcript() {
-    head -n 1 "$work/transcript" | grep -q -E '^(tick 0|done|refused .*|toomuch)$' ||
+    head -n 1 "$work/transcript" | grep -q -E "$transcript_begins" ||
         wrong "the input is no transcript, which ./osi run < SCRIPT writes"
+}
+
+# Of a file that is a transcript or a script: the transcript, or that of the run, as $work/$2. `ended` is the status of the run, 0 of a transcript.
+transcript_of() {
+    take "$1" script
+    ended=0
+    if head -n 1 "$work/script" | grep -q -E "$transcript_begins"; then
+        mv "$work/script" "$work/$2"
+    else
+        program run
+        ended=$status
+        mv "$work/run" "$work/$2"
+    fi
+}
+
+# $work/transcript: that of a file, or of the run of a script; or standard input, where no file is named. An empty file is neither.
+take_transcript() {
+    ended=0
+    if [ -z "$1" ]; then
+        cat >"$work/transcript"
+        is_transcript
+        return
+    fi
+    if [ -f "$1" ] && [ ! -s "$1" ]; then
+        wrong "$1 is empty: neither a script nor a transcript"
+    fi
+    transcript_of "$1" transcript
+    [ "$ended" = 0 ] || tell_refused "$1" transcript
+}
+
+# Names the line that is refused, where the last line of a transcript says so. It fails where none is.
+tell_refused() {
+    tail -n 1 "$work/$2" >"$work/last"
+    read -r event number column cause <"$work/last"
+    see="; see ./osi explain $1"
+    [ "${ended:-1}" != 0 ] || see=
+    case $event in
+    refused) say "$1: line $number is refused at its column $column: $cause$see" ;;
+    toomuch) say "$1: the script is longer than the program takes, or makes more events" ;;
+    *) return 1 ;;
+    esac
 }
 
 # The word that runs $work/script: that of its first comment `# osi WORD: ..`, else `run`.

@@ -80,6 +80,6 @@ END {
             }
         }
     }
-    if (!differs) print "the same events"
-    exit differs
+    if (!differs) print "the same events" (broken ? ", up to the line that is refused" : "")
+    exit differs || broken
 }
