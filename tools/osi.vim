@@ -3,8 +3,10 @@ if exists("b:current_syntax")
   finish
 endif
 syn match osiComment "^#.*" contains=osiForeign
+" A comment that no tool knows: free text has a blank behind #.
+syn match osiUnknown "^#[A-Za-z=].*" contains=osiForeign
 syn match osiExpected "^#= .*" contains=osiForeign
-syn match osiLosses "^#\(when\|losses\|calm\|down\|up\|lan\)\>.*" contains=osiForeign
+syn match osiLosses "^#\(when\|losses\|calm\|down\|up\|lan\)\( .*\)\?$" contains=osiForeign
 syn match osiCommand "^# osi \(run\|datagrams\|inactive\|relay\):.*" contains=osiForeign
 syn match osiSetup "^\(version\|set\|lan\|es\|is\|port\|route\|path\|tsap\|relay\|start\)\>"
 syn match osiEvent "^\(unit\|connect\|accept\|refuse\|data\|expedite\|window\|disconnect\|tick\|deliver\|settle\|inject\|restart\|send\)\>"
@@ -14,6 +16,7 @@ syn match osiNumber " \d\+\>"
 syn match osiForeign "[^ -~]" contained
 syn match osiFault "^ \+\| \+$\|  \+\|\t\|[^ -~]"
 hi def link osiComment Comment
+hi def link osiUnknown Error
 hi def link osiExpected Special
 hi def link osiLosses PreProc
 hi def link osiCommand PreProc

@@ -1,6 +1,6 @@
 # Of a script and the transcript of one run, for `sweep`: a row for each unit, each end and the run, parted by blanks:
-#     U SEED LOSS END UNIT SENT SHOWN DELAY       E SEED LOSS END CAUSE       R SEED LOSS FRAMES NO NEVER
-# - stands for what did not come. The units of an end are numbered from 1, expedited ones from e1; of a raw unit or a datagram END is SYSTEM>SYSTEM.
+#     U SEED LOSS END UNIT SENT SHOWN DELAY       E SEED LOSS END CAUSE       R SEED LOSS FRAMES NO NEVER LINES
+# LINES is the count of lines of the script that submit a unit each. - stands for what did not come. The units of an end are numbered from 1, expedited ones from e1; of a raw unit or a datagram END is SYSTEM>SYSTEM.
 function submit(from, kind,   n) {
     n = ++submitted[from, kind]
     unit[++units] = from
@@ -23,6 +23,7 @@ function show_raw(way, octets) {
 }
 FNR == NR {
     sub(/\r$/, "")
+    if ($1 ~ /^(data|expedite|unit|send)$/) unit_lines++
     if ($1 == "es") system_at[tolower(substr($3, 1, length($3) - 2))] = $2
     next
 }
@@ -47,5 +48,5 @@ $1 == "datagram" { show_raw(system_of($3) ">" $2, $4 " " $5 " " $6) }
 END {
     for (i = 1; i <= units; i++) print "U", seed, loss, unit[i], number[i], sent[i], (i in shown) ? shown[i] " " shown[i] - sent[i] : "- -"
     for (i = 1; i <= ends; i++) if (!(end[i] in joined)) print "E", seed, loss, end[i], end[i] in gone ? gone[end[i]] : "-"
-    print "R", seed, loss, frames + 0, refusals + 0, never + 0
+    print "R", seed, loss, frames + 0, refusals + 0, never + 0, unit_lines + 0
 }

@@ -1,6 +1,6 @@
 # The table of `sweep`: a row for each rate. What it keeps is a count for each delay and cause, whatever the number of runs.
 function clear() {
-    runs = submitted = shown = frames = refusals = never = looks = gone = 0
+    runs = unit_lines = submitted = shown = frames = refusals = never = looks = gone = 0
     split("", at)
     split("", causes)
     most = -1
@@ -16,6 +16,7 @@ function share(percent,   wanted, sum, d) {
 function write(   cause, list, n, i, j, name) {
     printf "%6s%6d%11d%7d%8s%8s%6s%6s%6s%8s%6d%6d%7d\n", place == "no" ? "none" : loss " %", runs, submitted, shown, share(0), share(50), share(90), share(99), share(100),
         shown ? sprintf("%.1f", frames / shown) : "-", gone, refusals, never
+    if (unit_lines > submitted) print "       of " unit_lines " lines for units " unit_lines - submitted " submitted none"
     for (cause in causes) name[++n] = cause
     for (i = 2; i <= n; i++) {
         cause = name[i]
@@ -53,6 +54,7 @@ $1 == "R" {
     frames += $4
     refusals += $5
     never += $6
+    unit_lines += $7
     if ($5 || $6) is_odd = 1
     end_run()
 }
