@@ -12,7 +12,7 @@ _osi() {
         ladder) words='--svg --ticks --of --help' ;;
         sweep) words='--csv --svg --on --help' ;;
         type) words='--from --step --help' ;;
-        live) words='--tick --log --stay --skew --help' ;;
+        live) words='--fresh --tick --log --stay --skew --help' ;;
         recovery) words='--seeds --outages --outage --less --help' ;;
         *) words=--help ;;
         esac

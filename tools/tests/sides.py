@@ -61,13 +61,15 @@ def shifted(folder, seconds):
 
 
 class Side:
-    """One ./osi live: its lines are typed here, and its transcript is waited for. Its clock is `ahead` by so many seconds."""
+    """One ./osi live: its lines are typed here, and its transcript is waited for. Its clock is `ahead` by so many seconds. It begins with
+    --fresh, unless it is to be `unsure`; `run` is which run of its systems it is, from 1, and so which log it writes."""
 
-    def __init__(self, folder, setup, systems, *words, prefix=(), ahead=0.0):
+    def __init__(self, folder, setup, systems, *words, prefix=(), ahead=0.0, unsure=False, run=1):
         self.name = systems
-        self.log = os.path.join(folder, systems.replace(",", "-") + ".log")
-        self.said = open(os.path.join(folder, systems.replace(",", "-") + ".said"), "w+b")
-        command = [*prefix, os.path.join(TOP, "tools/live"), setup, systems, *words, "--log", self.log]
+        stem = os.path.join(folder, systems.replace(",", "-"))
+        self.log = stem + (".log" if run == 1 else ".%d.log" % run)
+        self.said = open("%s.%d.said" % (stem, run), "w+b")
+        command = [*prefix, os.path.join(TOP, "tools/live"), setup, systems, *words, "--log", stem + ".log", *([] if unsure else ["--fresh"])]
         self.process = subprocess.Popen(command, stdin=subprocess.PIPE, stdout=subprocess.PIPE, stderr=self.said,
                                         env=shifted(folder, ahead) if ahead else ENVIRONMENT)
         self.octets = b""

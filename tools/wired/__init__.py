@@ -7,7 +7,9 @@
     wires     Ethernet interfaces and datagrams of UDP, which carry frames
     clock     ticks at whole multiples of a period
     log       a run on a wire, kept as a script
+    beginning which systems begin silent
     typed     which lines may be handed on to a run
+    waiting   lines that wait for events
     watching  what a run waits for: files, and the signals that end it
     running   ./osi live
     story     a transcript, event by event

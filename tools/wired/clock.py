@@ -33,9 +33,10 @@ class Clock:
         self.latest = 0  # the most that one came behind its time
         self.is_back = False  # whether the machine's clock is before the last tick
 
-    def begin(self, every):
-        """Sets the clock to the next tick that is a multiple of `every`, or with 0 to the one that is; gives its time."""
-        tick = time.time_ns() // self.period
+    def begin(self, every, is_later):
+        """Sets the clock to the tick that is, or with `is_later` to the next one; of these to the first that is a multiple of `every`, where
+        that is not 0. Gives its time."""
+        tick = time.time_ns() // self.period + is_later
         if every:
             tick += -tick % every
         self.tick = tick

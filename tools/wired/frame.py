@@ -3,8 +3,10 @@
 A frame is: destination, 6 octets; source, 6; length of what follows, 2; LLC header, 3; a network PDU; padding up to 60 octets.
 """
 HEADER = 14
+LLC = 3
 SHORTEST = 60  # Ethernet pads a frame up to here
 LONGEST_LENGTH = 1500  # a greater value in the length field is a type, and the frame none of 802.3
+CLNP, MAY_BE_CUT, TYPE, ERROR_REPORT = 0x81, 0x80, 0x1f, 0x01  # the first octet of a PDU, and bits of the fifth
 GROUP_OF = {"es": bytes.fromhex("09002b000004"), "is": bytes.fromhex("09002b000005")}
 
 
@@ -27,6 +29,30 @@ def without_padding(frame):
 def padded(frame):
     """The frame as Ethernet wants it: of 60 octets at least."""
     return frame.ljust(SHORTEST, b"\0")
+
+
+def longest(room):
+    """The octets of the longest frame of a LAN whose network PDUs have so many octets at most."""
+    return HEADER + LLC + room
+
+
+def without_identifiers(frame):
+    """The frame with zeros for the identifier of its PDU, and for the checksum that covers it: a system that begins again counts anew."""
+    return frame[:HEADER + LLC] + pdu_without_identifier(frame[HEADER + LLC:])
+
+
+def pdu_without_identifier(pdu):
+    """The same of a PDU. An error report has no identifier, but holds the header of a PDU that may have one."""
+    if len(pdu) < 11 or pdu[0] != CLNP:
+        return pdu
+    header = pdu[1]
+    if pdu[4] & TYPE == ERROR_REPORT:
+        return pdu[:header] + pdu_without_identifier(pdu[header:])
+    if not pdu[4] & MAY_BE_CUT:
+        return pdu
+    of_source = 10 + pdu[9]  # the length of the source address, behind the destination
+    identifier = of_source + 1 + (pdu[of_source] if of_source < len(pdu) else 0)
+    return pdu[:7] + b"\0\0" + pdu[9:identifier] + b"\0\0" + pdu[identifier + 2:]
 
 
 class Records:

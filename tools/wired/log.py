@@ -4,7 +4,10 @@
     the lines of the set-up, as they stand
     # at SECONDS tick NUMBER            before `start` and each `tick`: the time, and the tick of the clock
     # at SECONDS                        before other lines: when they were handed on
+
+A log is never written over: FILE.log is followed by FILE.2.log, FILE.3.log and so on.
 """
+import os
 import re
 from collections import namedtuple
 
@@ -29,13 +32,45 @@ def at(now, tick=None):
     return b"# at %s%s\n" % (seconds(now).encode(), b"" if tick is None else b" tick %d" % tick)
 
 
-class Writer:
-    """A log that is written."""
+class Series:
+    """The logs of one name: FILE.log, FILE.2.log and so on. `path` is the first name."""
 
     def __init__(self, path):
         self.path = path
+        self.stem, self.ending = os.path.splitext(path)
+        self.is_device = os.path.exists(path) and not os.path.isfile(path)
+
+    def name(self, number):
+        """The name of the so many-th log, from 1."""
+        return self.path if number == 1 else "%s.%d%s" % (self.stem, number, self.ending)
+
+    def numbers(self):
+        """The numbers of those that are there, in order."""
+        folder, stem = os.path.split(self.stem)
+        wanted = re.compile(re.escape(stem) + r"(?:\.([1-9][0-9]{0,8}))?" + re.escape(self.ending) + "$")
         try:
-            self.file = open(path, "wb", buffering=0)
+            found = [wanted.match(name) for name in os.listdir(folder or ".")]
+        except OSError:
+            return []
+        return sorted(int(each.group(1) or 1) for each in found if each)
+
+    def paths(self):
+        """The logs that are there, in order; a device keeps none."""
+        return [] if self.is_device else [self.name(number) for number in self.numbers()]
+
+    def next(self):
+        """The log that is written next, behind all that are there."""
+        number = max(self.numbers(), default=0) + 1
+        return Writer(self.path, "wb") if self.is_device else Writer(self.name(number), "xb")
+
+
+class Writer:
+    """A log that is written."""
+
+    def __init__(self, path, mode):
+        self.path = path
+        try:
+            self.file = open(path, mode, buffering=0)
         except OSError as error:
             raise Fault(WRONG_WORDS, "the log %s cannot be written: %s" % (path, error.strerror))
 
@@ -91,6 +126,13 @@ class Log:
                 if tick is None:
                     raise Fault(WRONG_WORDS, "%s:%d: no comment tells the tick of this line" % (self.path, number))
                 self.entries.append(Entry(number, time, tick, line))
+
+
+def was_given_nothing(path):
+    """Whether a log has no line `start`: its run gave the program nothing, so no system of it did anything. Fault: no such file."""
+    octets = whole_lines(path)
+    first, *lines = octets.split(b"\n")
+    return not octets or bool(HEAD.match(first.decode("ascii", "replace"))) and b"start" not in lines
 
 
 def whole_lines(path):

@@ -11,8 +11,9 @@ import time
 from . import log
 from .clock import Clock, SECOND
 from .command import Fault, INTERRUPTED, say, TOO_MUCH, write_out
-from .frame import destination, HEADER, Records, source, without_padding
+from .frame import destination, HEADER, longest, Records, source, without_padding
 from .program import EVENTS, LINE_OCTETS, Program, READ, SCRIPT_LINES, SCRIPT_OCTETS
+from .waiting import Waiting
 from .watching import FOR_ROOM, Interrupts, Watching
 
 BACKLOG = 1 << 20  # octets that wait for the program: with more of them nothing is taken
@@ -50,7 +51,7 @@ class Transcript:
         self.lines = 0
 
     def take(self, octets):
-        """Takes the next octets."""
+        """Takes the next octets, and gives the lines that they end."""
         lines = (self.rest + octets).split(b"\n")
         self.rest = lines.pop()
         self.lines += len(lines)
@@ -58,6 +59,7 @@ class Transcript:
             if line.startswith(b"frame "):
                 fields = line.split(b" ")
                 self.sent.append(Sent(int(fields[1]), fields[2].decode(), fields[3].decode(), bytes.fromhex(fields[4].decode())))
+        return lines
 
 
 class Receiving:
@@ -67,7 +69,7 @@ class Receiving:
         self.lan = lan
         self.takers = setup.receivers(lan, here)
         self.own = setup.snpas(lan, here)
-        self.longest = (LINE_OCTETS - len("inject  ") - len(lan) - max(map(len, here))) // 2
+        self.longest = longest(setup.rooms[lan])
         self.counts = collections.Counter()
 
     def lines(self, frames):
@@ -92,21 +94,24 @@ class Receiving:
         if source(frame) in self.own:
             return "from a system here, that came back"
         if len(frame) > self.longest:
-            return "longer than a line holds"
+            return "longer than their LAN allows"
         return None
 
 
 class Live:
     """The run: what comes in by standard input, the wires and the clock goes to the program, and its frames to the wires."""
 
-    def __init__(self, setup, here, wires, period, skew, stay, kept, typed):
-        self.setup = setup
+    def __init__(self, setup, here, silent, wires, period, skew, stay, kept, typed):
+        self.setup = setup.of_version_2() if silent else setup
         self.here = here
+        self.silent = silent  # the systems that begin so
+        self.first_tick = 0  # of the clock
         self.wires = wires  # of each LAN a list
         self.clock = Clock(period, skew)
         self.stay = stay  # nanoseconds behind the end of standard input; None is until the run is interrupted
         self.kept = kept  # the log, or None
         self.typed = typed
+        self.waiting = Waiting()
         self.receiving = {lan: Receiving(setup, here, lan) for lan in wires}
         self.takers = {lan: setup.receivers(lan, here) for lan in setup.bounds}
         self.limits = Limits()
@@ -138,6 +143,20 @@ class Live:
         if lines:
             comment = log.at(now) if self.kept else b""
             self.hand_on(comment + b"\n".join(lines) + b"\n")
+
+    def hand_on_typed(self, lines, now):
+        """Hands on lines of users, but for those that come too early."""
+        early = [line for line in lines if self.is_early(line)]
+        for line in early:
+            say("not handed on: %s: units that may be cut go from tick %d on: pieces of earlier ones may be on their way, with the same "
+                "identifiers" % (line[:60].decode(), self.setup.life + 1))
+        self.hand_on_lines([line for line in lines if line not in early], now)
+
+    def is_early(self, line):
+        """Whether a line is a raw unit that may be cut, of a system that may have sent others before it began."""
+        word, *fields = line.decode().split(" ")
+        is_young = self.clock.tick - self.first_tick <= self.setup.life
+        return is_young and word == "unit" and fields[0] in self.silent and "s" in fields[2]
 
     def tick_where_due(self):
         """Hands on the ticks that are due, and gives the time."""
@@ -212,7 +231,9 @@ class Live:
         taken, explanations = self.typed.look(lines)
         for explanation in explanations:
             say(explanation)
-        self.hand_on_lines(taken, self.tick_where_due())
+        self.hand_on_typed([asked.line for asked in taken if not self.waiting.take(asked)], self.tick_where_due())
+        if not octets and self.typed.left_over():
+            say(self.typed.left_over())
 
     def on_transcript(self):
         """Lines of the transcript have come, or it has ended."""
@@ -222,8 +243,10 @@ class Live:
             self.begin_end()
         elif octets:
             write_out(octets)
-            self.transcript.take(octets)
+            released = self.waiting.hear(octets, self.transcript.take(octets))
             self.limits.events = self.transcript.lines
+            if released and not self.is_ending:
+                self.hand_on_typed(released, self.tick_where_due())
 
     def on_capture(self):
         """Octets of frames have come, or there are no more."""
@@ -252,22 +275,37 @@ class Live:
 
     def begin(self):
         """Hands on the set-up, at the tick of the clock from which hellos are in step with those of others."""
-        begins = self.clock.begin(self.setup.hello_ticks)
-        wait = begins - time.time_ns()
-        if wait > 0:
-            if wait > SECOND:
-                say("hellos go each %d ticks of the clock: it begins in %.1f s" % (self.setup.hello_ticks, wait / SECOND))
-            while self.watching.wait(max(0, begins - time.time_ns()) / SECOND):
-                pass
+        # (a silent system begins in a later tick than its earlier run ended: so one script has room for both)
+        begins = self.clock.begin(self.setup.hello_ticks, bool(self.silent))
+        self.first_tick = self.clock.tick
+        self.wait_until(begins)
         self.run_process, self.frames_process = Program("run"), Program("frames")
         for wires in self.wires.values():
             for wire in wires:
                 self.counts["before the run began"] += drain(wire)
         comments = (log.head(self.clock.period, self.here), log.at(time.time_ns(), self.clock.tick)) if self.kept else (b"", b"")
-        self.hand_on(comments[0] + b"".join(line + b"\n" for line in self.setup.lines) + comments[1] + b"start\n")
+        restarts = b"".join(b"restart %s\n" % name.encode() for name in self.silent)
+        self.hand_on(comments[0] + b"".join(line + b"\n" for line in self.setup.lines) + comments[1] + b"start\n" + restarts)
+        if self.silent:
+            say(self.silence())
         self.watching.add(self.run_process.output, self.on_transcript)
         self.watching.add(self.frames_process.output, self.on_capture)
         self.set_taking()
+
+    def wait_until(self, begins):
+        """Waits for the time at which the run begins."""
+        wait = begins - time.time_ns()
+        if wait > SECOND:
+            hellos = "hellos go each %d ticks of the clock: " % self.setup.hello_ticks if self.setup.hello_ticks else ""
+            say("%sit begins in %.1f s" % (hellos, wait / SECOND))
+        while time.time_ns() < begins:
+            self.watching.wait(max(0, begins - time.time_ns()) / SECOND)
+
+    def silence(self):
+        """What is told of systems that begin silent."""
+        ticks = self.setup.frozen_ticks
+        return "silent up to tick %d, %.1f s from now: %s may have run before, so it makes no connection and answers none; where it never ran, " \
+            "begin it with --fresh" % (ticks, (ticks + 1) * self.clock.period / SECOND, ", ".join(self.silent))
 
     def end_input(self):
         """Standard input has ended: without --stay a terminal's ends the run, and that of a file or a pipe does not."""
@@ -313,6 +351,8 @@ class Live:
         """Tells what was counted, and gives the status of the run."""
         status = self.run_process.wait()
         self.frames_process.wait()
+        for line, _ in self.waiting.held:
+            say("waited for what never came: %s" % line[:60].decode())
         for text in self.summary():
             say(text)
         if status == TOO_MUCH:

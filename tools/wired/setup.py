@@ -1,11 +1,15 @@
 """The set-up of a script: its lines up to `start`, with the systems, ports and LANs that they name."""
+import os
+import subprocess
 from collections import namedtuple
 
-from .command import Fault, WRONG_WORDS
+from .command import Fault, TOOLS, WRONG_WORDS
 from .frame import GROUP_OF
 
 # A system's port: the names of the system and the LAN, and the SNPA, 6 octets.
 Port = namedtuple("Port", "system lan snpa")
+NOT_SET = {"life": 32, "ct": 0, "t1": 8, "n": 4, "i": 60}  # what holds without a line `set`
+VERSION = b"version "
 
 
 class Setup:
@@ -17,7 +21,7 @@ class Setup:
         self.ports = []
         self.bounds = {}  # of each LAN, in ticks
         self.rooms = {}  # of each LAN, in octets of a network PDU
-        self.hello_ticks = 0  # from one hello to the next; 0 is none
+        self.settings = dict(NOT_SET)
         for line in self.statements():
             self.add(line.split(" "))
 
@@ -30,12 +34,48 @@ class Setup:
             self.ports.append(Port(fields[1], fields[2], bytes.fromhex(fields[3])))
         elif word == "lan":
             self.bounds[fields[1]], self.rooms[fields[1]] = int(fields[2]), int(fields[3])
-        elif fields[:2] == ["set", "ct"]:
-            self.hello_ticks = int(fields[2])
+        elif word == "set":
+            self.settings[fields[1]] = int(fields[2])
+
+    @property
+    def hello_ticks(self):
+        """The ticks from one hello to the next; 0 is none."""
+        return self.settings["ct"]
+
+    @property
+    def life(self):
+        """M: for how many ticks a PDU is on its way at most."""
+        return self.settings["life"]
+
+    @property
+    def frozen_ticks(self):
+        """F = 2M + I + N T1: for how many ticks a reference is frozen, and a transport entity that begins again is silent."""
+        return 2 * self.life + self.settings["i"] + self.settings["n"] * self.settings["t1"]
+
+    @property
+    def is_of_version_2(self):
+        """Whether it has the line `version 2`."""
+        return VERSION + b"2" in self.lines
+
+    def of_version_2(self):
+        """The set-up with the line `version 2`, in which a script has lines `restart`: nothing else that it may have means something else."""
+        if self.is_of_version_2:
+            return self
+        lines = [line for line in self.lines if not line.startswith(VERSION)]
+        first = next(number for number, line in enumerate(lines) if does_something(line))
+        return Setup(lines[:first] + [VERSION + b"2"] + lines[first:])
 
     def statements(self):
         """The lines that do something, as text."""
-        return [line.decode("ascii") for line in self.lines if line and not line.startswith(b"#")]
+        return [line.decode("ascii") for line in self.lines if does_something(line)]
+
+    def unversioned(self):
+        """The same without the version."""
+        return [line for line in self.statements() if not line.startswith(VERSION.decode())]
+
+    def end_systems(self, systems):
+        """Those of the systems named that are end systems."""
+        return [name for name in systems if self.kinds[name] == "es"]
 
     def receivers(self, lan, systems):
         """For whom a frame on a LAN is: of each SNPA and group the systems, of those named, that take it."""
@@ -53,6 +93,17 @@ class Setup:
     def owner(self, lan, snpa):
         """The system whose SNPA on the LAN it is, or None."""
         return next((port.system for port in self.ports if (port.lan, port.snpa) == (lan, snpa)), None)
+
+
+def does_something(line):
+    """Whether a line is no comment, and not empty."""
+    return bool(line) and not line.startswith(b"#")
+
+
+def word_of(lines):
+    """The word of the program that the first comment of a script names; `run` without one."""
+    told = subprocess.run(["awk", "-f", os.path.join(TOOLS, "word.awk")], input=b"\n".join(lines) + b"\n", stdout=subprocess.PIPE, check=False)
+    return told.stdout.decode().strip() or "run"
 
 
 def lines_of(path):
