@@ -1,18 +1,48 @@
 """What frames carry (ISO/IEC 8802-2 and 8802-3, X.233, X.224): the units of transport in the frames of a capture."""
-from wired.command import Fault, REFUSED
-from wired.frame import Records
+from array import array
 
+from wired.command import Fault, REFUSED
+
+FILE_HEADER, RECORD_HEADER = 24, 16
+MOST_READ = 64
 LLC = bytes.fromhex("fefe03")
 CLNP, DT_PDU, SEGMENTS_MAY = 0x81, 28, 0x80
 KINDS = {0xE: "CR", 0xD: "CC", 0x8: "DR", 0xC: "DC", 0xF: "DT", 0x1: "ED", 0x6: "AK", 0x2: "EA", 0x7: "ER"}
 NUMBERED = {"DT", "ED", "AK", "EA"}
 
 
-def of_capture(octets):
-    """The frames of a capture, in order. Fault: it is none."""
-    if octets[:4] not in (bytes.fromhex("a1b2c3d4"), bytes.fromhex("a1b23c4d")):
-        raise Fault(REFUSED, "the capture is none that ./osi frames writes")
-    return Records().take(octets)
+class Capture:
+    """The frames of a capture, by their numbers from 0, each read where it is asked for. Fault: it is none."""
+
+    def __init__(self, octets):
+        if octets[:4] not in (bytes.fromhex("a1b2c3d4"), bytes.fromhex("a1b23c4d")):
+            raise Fault(REFUSED, "the capture is none that ./osi frames writes")
+        self.octets, self.places = octets, array("L")
+        self.read = {}  # the PDUs of frames that were read of late
+        at = FILE_HEADER
+        while at + RECORD_HEADER <= len(octets):
+            end = at + RECORD_HEADER + int.from_bytes(octets[at + 8:at + 12], "big")
+            if end > len(octets):
+                break
+            self.places.append(at)
+            at = end
+
+    def __len__(self):
+        return len(self.places)
+
+    def length(self, number):
+        """The octets of a frame."""
+        at = self.places[number]
+        return int.from_bytes(self.octets[at + 8:at + 12], "big")
+
+    def pdu(self, number):
+        """The data PDU in a frame, or None: as a rule one is sent, and soon taken."""
+        if number not in self.read:
+            if len(self.read) >= MOST_READ:
+                self.read.clear()
+            at = self.places[number] + RECORD_HEADER
+            self.read[number] = pdu_of(self.octets[at:at + self.length(number)])
+        return self.read[number]
 
 
 class Pdu:
@@ -31,10 +61,7 @@ class Pdu:
             self.id = int.from_bytes(octets[at:at + 2], "big")
             self.offset = int.from_bytes(octets[at + 2:at + 4], "big")
             self.total = int.from_bytes(octets[at + 4:at + 6], "big") - header
-
-    def is_whole(self):
-        """Whether it has all octets of its unit."""
-        return len(self.text) == self.total
+        self.is_whole = len(self.text) == self.total  # whether it has all octets of its unit
 
 
 def pdu_of(frame):
@@ -67,7 +94,7 @@ class Store:
 
     def take(self, pdu, tick):
         """The octets of the unit that the PDU makes whole, or None."""
-        if pdu.is_whole():
+        if pdu.is_whole:
             return pdu.text
         key = pdu.source, pdu.to, pdu.id
         if key in self.held and self.held[key][0] <= tick:

@@ -74,10 +74,18 @@ def spared(longest):
 def of_claim(claim):
     """What became of each connection, and whether what is claimed of them holds."""
     lines = [of_pair(claim, pair) for pair in claim.ends.pairs]
-    if claim.is_outage:
-        lines.append("all came up to tick %d, so the outage has %s; %s" %
-                     (claim.tick(claim.parts.calm), ticks(claim.outage()), spared(claim.longest + claim.less)))
+    if claim.outage():
+        lines.append("two open ends were up to date at tick %d last, so the outage has %s; %s" %
+                     (claim.t0 - claim.outage(), ticks(claim.outage()), spared(claim.longest + claim.less)))
     return lines + (["%d broken" % len(claim.broken)] if claim.broken else ["the claim holds"])
+
+
+def of_strange(name, claim):
+    """What is strange, and excluded by no sentence."""
+    return ["%s:%d (tick %d): not claimed: end %d %s" % (name, strange.step.number, strange.step.tick, strange.end.number, strange.told) for strange in claim.strange]
+
+
+UNPROVED = "an unproved program made this run: what is proved is proved of the one that ./osi-build builds"
 
 
 def of_broken(name, claim):

@@ -42,11 +42,16 @@ def say(text):
     sys.stderr.flush()
 
 
+def is_kept():
+    """Whether an unproved program answers, which the launcher keeps: what the launcher says of it is in OSI_SAYS."""
+    return bool(os.environ.get("OSI_SAYS"))
+
+
 def program():
-    """The path of the program. Fault: it is not built."""
+    """The path of the program: that of the launcher where an unproved one is kept. Fault: it is not built."""
     if os.environ.get("OSI_BUILT") != "yes":
         raise Fault(NO_BUILD, os.environ.get("OSI_SAYS") or "it takes the proved program, which is not built: ./osi-build builds it")
-    return os.environ["OSI_PROGRAM"]
+    return os.environ["OSI" if is_kept() else "OSI_PROGRAM"]
 
 
 def environment():
