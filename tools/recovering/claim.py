@@ -241,7 +241,8 @@ class Claim:
     # -- outages
 
     def is_up_to_date(self, pair, place):
-        """Whether both are Opened after the step, and up to date: what is outstanding was first sent in that tick, and each took something less than W ticks before."""
+        """Whether both are Opened after the step, and up to date: what is outstanding was first sent in that tick, and each took something less than W
+        ticks before."""
         return pair.both_opened(place) and (place == self.parts.calm or all(self.is_end_up_to_date(end, place) for end, _ in pair.ends()))
 
     def is_end_up_to_date(self, end, place):
@@ -281,7 +282,7 @@ class Claim:
         yield from zip(settles, settles[1:])
 
     def latest_up_to_date(self, pair, first, last):
-        """The latest place of these at which both are up to date, or None. Longer ago than any short outage the places of `settle` lines alone are looked at."""
+        """The latest place of these at which both are up to date, or None. Longer ago than any short outage only `settle` lines are looked at."""
         for place in range(last, first - 1, -1):
             is_near = self.t0 - self.tick(place) <= self.longest + self.less
             if (is_near or self.steps[place].is_whole) and self.is_up_to_date(pair, place):
@@ -323,7 +324,8 @@ class Claim:
                 continue
             else:
                 what = "end %d is %s" % (called.number, called.state(later))
-            return self.fail(later, calling, "request", "waits at tick %d, and %s; t0 + T1 is %d" % (self.tick(later), what, self.tick(since) + self.t1 - self.less))
+            bound = self.tick(since) + self.t1 - self.less
+            return self.fail(later, calling, "request", "waits at tick %d, and %s; t0 + T1 is %d" % (self.tick(later), what, bound))
         return self.look_at_named(pair, since)
 
     def look_at_named(self, pair, since):

@@ -103,10 +103,6 @@ class End:
             return "CrWait"
         return "AkWait" if place >= self.accepted else "UserWait"
 
-    def is_there(self, place):
-        """Whether it was made by the step."""
-        return self.made <= place
-
     def is_opened(self, place):
         """Whether it is Opened after the step."""
         return self.opened <= place < self.left
