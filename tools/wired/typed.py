@@ -14,6 +14,7 @@ NOT_TYPED = {
     "inject": "frames come in by the wires",
 }
 NAMES_ITS_SYSTEM = ("connect", "unit", "restart")
+COMMENTS = ("distance.awk", "comments.awk", "lossy-comments.awk")  # what looks at such comments, beside ./osi lossy
 OF_LOSSES = (b"#losses", b"#calm", b"#down", b"#up", b"#lan")
 
 
@@ -118,7 +119,7 @@ def faults_of(comments):
     faults = []
     while len(faults) < len(comments):
         script = b"".join(line + b"\ndata 1 00\n" for line in comments[len(faults):])
-        told = subprocess.run(["awk", "-f", os.path.join(TOOLS, "lossy-comments.awk")], input=script, stdout=subprocess.PIPE, check=False)
+        told = subprocess.run(["awk"] + [word for name in COMMENTS for word in ("-f", os.path.join(TOOLS, name))], input=script, stdout=subprocess.PIPE, check=False)
         line, *fault = told.stdout.decode().strip().split(" ", 3)
         if not fault:
             return faults + [None] * (len(comments) - len(faults))
